@@ -110,9 +110,9 @@ def record_line(name, content):
     return f"{name},sha256={digest},{len(content)}\n"
 
 
-def described(told_tag):
-    """The files that describe the package, by their names in its folder."""
-    told = {"version": version(), "tag": told_tag}
+def described(shared, told_tag=None):
+    """The files that describe the package of a library, by their names in its folder; without a tag it is read off the library."""
+    told = {"version": version(), "tag": told_tag or tag(shared)}
     files = {name: text.format(**told).encode() for name, text in TEXTS.items()}
     return {**files, "licenses/LICENSE": (ROOT / "LICENSE").read_bytes()}
 
@@ -143,7 +143,7 @@ def shared_files():
 def prepare_metadata_for_build_wheel(metadata_directory, config_settings=None):
     """Writes the folder that describes the package; gives its name."""
     folder = pathlib.Path(metadata_directory) / f"mixegorta-{version()}.dist-info"
-    for name, content in described(tag(shared_object())).items():
+    for name, content in described(shared_object()).items():
         (folder / name).parent.mkdir(parents=True, exist_ok=True)
         (folder / name).write_bytes(content)
     return folder.name
@@ -161,7 +161,7 @@ def written_wheel(wheel_directory, library, shared, told_tag):
     files = {**dict(package_files()), f"mixegorta/{library}": shared}
     places = {} if told_tag == WINDOWS else shared_files()
     files.update((f"{folder}.data/data/{place}", content) for place, content in places.items())
-    files.update((f"{folder}.dist-info/{name}", content) for name, content in described(told_tag).items())
+    files.update((f"{folder}.dist-info/{name}", content) for name, content in described(shared, told_tag).items())
     record = f"{folder}.dist-info/RECORD"
     files[record] = ("".join(record_line(*file) for file in files.items()) + record + ",,\n").encode()
     wheel = f"{folder}-{told_tag}.whl"

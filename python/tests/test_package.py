@@ -87,7 +87,7 @@ class Test(unittest.TestCase):
         import tomllib
         project = tomllib.loads(pathlib.Path(PYTHON, "pyproject.toml").read_text())["project"]
         with backend() as (module, folder):
-            described = {name: content.decode() for name, content in module.described(module.tag(b"GLIBC_2.2.5 GLIBC_2.14 GLIBC_2.4")).items()}
+            described = {name: content.decode() for name, content in module.described(b"GLIBC_2.2.5 GLIBC_2.14 GLIBC_2.4").items()}
         for line in (f"Name: {project['name']}", f"Summary: {project['description']}", f"Requires-Python: {project['requires-python']}",
                      f"License: {project['license']['text']}", f"Version: {m.__version__}"):
             self.assertIn(f"{line}\n", described["METADATA"])
