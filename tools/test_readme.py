@@ -1,5 +1,5 @@
 #!/usr/bin/env python3
-"""Runs every command of README.md, block after block, in a folder that holds links to the clone's files and a wheel.
+"""Runs every command of README.md, block after block, in a folder that holds links to the clone's files, a wheel and the examples' texts.
 
     tools/test_readme.py
 
@@ -41,6 +41,7 @@ class Readme(unittest.TestCase):
         for path in ROOT.iterdir():
             if path.name not in ('dist', '.git'):
                 (work / path.name).symlink_to(path)
+        (work / 'coupon-put.txt').write_bytes((ROOT / 'examples/coupon-put.txt').read_bytes())
         (work / 'example.c').write_text(example('c', self.text), encoding='utf-8')
         subprocess.run([sys.executable, '-m', 'venv', folder / 'environment'], check=True)
         return folder, work

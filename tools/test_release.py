@@ -114,7 +114,10 @@ class Release(release_targets.OtherSystems, unittest.TestCase):
     def test_two_runs_give_the_same_bytes(self):
         names = [sorted(path.name for path in dist.iterdir()) for dist in self.dists]
         self.assertEqual(*names)
-        self.assertEqual(len(names[0]), 8 + release_targets.count())
+        # the four of every release, and what else is made beside them
+        four = {self.wheel.name, f'mixegorta-{self.version}-linux-x86_64.tar.gz', 'PROOF.txt', 'SHA256SUMS'}
+        self.assertEqual((len(four), four - set(names[0])), (4, set()))
+        self.assertEqual(len(names[0]), len(four) + 4 + release_targets.count())
         for name in names[0]:
             self.assertEqual(*((dist / name).read_bytes() for dist in self.dists), name)
 
