@@ -24,21 +24,20 @@ sys.dont_write_bytecode = True
 ROOT = pathlib.Path(__file__).resolve().parent.parent
 sys.path[:0] = [str(ROOT / 'python'), str(ROOT / 'tools')]
 import usage
-from mixegorta_command import nights, texts
+from mixegorta_command import clusters, nights, streams, texts, valuing
 
 m = usage.library(__doc__)
 # Files of a small night, files of one that takes long enough to be broken off half way on a busy machine, and how long
 # a command may take on such a one.
 MANY, LONG, SECONDS = 2_000, 60, 600
-DEADLY_BOOK = b'\x10deadly'
-# A package in place of mixegorta whose library dies: on every book, or on that one.
+# A package in place of mixegorta whose library dies: on every book, or on one with these bytes.
 DEADLY = '''import importlib.util, os, sys
 spec = importlib.util.spec_from_file_location('mixegorta', {real!r}, submodule_search_locations=[{folder!r}])
 real = importlib.util.module_from_spec(spec)
 sys.modules['mixegorta'] = real
 spec.loader.exec_module(real)
 whole = real.report_of_file
-real.report_of_file = lambda file: os._exit(9) if {every} or bytes(file) == b'\\x10deadly' else whole(file)
+real.report_of_file = lambda file: os._exit(9) if {every} or bytes(file) == b'deadly' else whole(file)
 '''
 
 
@@ -161,7 +160,7 @@ class Here(Folder):
         others = {
             text: 'the text of a job: `mixegorta price FILE` prices it',
             ROOT / 'examples/one-step-today.job': 'a job: `mixegorta price FILE` prices it',
-            text.with_suffix('.sheet'): 'a sheet: `mixegorta draw < FILE` draws it', ROOT / 'LICENSE': 'a plain text',
+            text.with_suffix('.sheet'): 'a sheet: `mixegorta draw < FILE` draws it',
             self.book('part.json',
                       books('--json', *files).stdout): 'a report that `mixegorta books --json` wrote: `mixegorta books --join FILE..` takes it'
         }
@@ -170,22 +169,26 @@ class Here(Folder):
             self.assertEqual((made.returncode, made.stdout, made.stderr.count(b'\n')), (2, b'', 1), made.stderr)
             self.assertIn(f'{other}: no book: this is {what}', made.stderr.decode())
         made = books(*others)
-        self.assertEqual((made.returncode, made.stdout, b'none of the 5 files is a book' in made.stderr),
+        self.assertEqual((made.returncode, made.stdout, b'none of the 4 files is a book' in made.stderr),
                          (2, b'', True))
         made = books(*files[:3], text, *files[3:])
         self.assertEqual((made.returncode, made.stdout),
                          (1, self.lines_of(files).replace(b'unvalued 0', b'unvalued 1')))
         self.assertIn(f'{text}: not valued: this is the text of a job', made.stderr.decode())
+        # bytes of no kind that is known are taken for a book, and counted as the engine counts them
+        for other in (ROOT / 'LICENSE', self.book('odd.book', b'odd'), self.book('none.book', b'')):
+            made = books(*files, other)
+            self.assertEqual((made.returncode, made.stdout, made.stderr), (0, self.lines_of([*files, other]), b''))
 
     def test_a_process_that_dies(self):
         files, path = self.small(30), self.deadly(every=False)
-        made = books('--processes', 2, *files[:9], self.book('deadly.book', DEADLY_BOOK), *files[9:], path=path)
+        made = books('--processes', 2, *files[:9], self.book('deadly.book', b'deadly'), *files[9:], path=path)
         self.assertEqual((made.returncode, made.stdout), (1, self.lines_of(files).replace(b'unvalued 0', b'unvalued 1')), made.stderr)
         self.assertIn(b'deadly.book: not valued: the process that valued it died', made.stderr)
 
     def test_processes_end_with_the_command(self):
         """Killed, it leaves no process behind."""
-        files = self.large(LONG)
+        files = self.large(6)
         with subprocess.Popen([sys.executable, '-m', 'mixegorta_command', 'books', '--processes', '2', *map(str, files)], env=settings(), stdout=subprocess.DEVNULL,
                               stderr=subprocess.DEVNULL) as running:
             children = pathlib.Path(f'/proc/{running.pid}/task/{running.pid}/children')
@@ -261,7 +264,7 @@ class Resumed(Folder):
         self.assertEqual(books('--resume', state, *files).stdout, self.lines_of(files))
 
     def test_a_night_that_is_killed_goes_on(self):
-        files, state = self.large(LONG), self.folder / 'state'
+        files, state = self.large(12), self.folder / 'state'
         wanted = self.lines_of(files)
         command = [sys.executable, '-m', 'mixegorta_command', 'books', '--processes', '2', '--resume', str(state), *map(str, files)]
         for kept in (2, 5):
@@ -336,8 +339,8 @@ class OnACluster(Folder):
                 os.killpg(process.pid, signal.SIGKILL)
             process.wait()
 
-    def books(self, *arguments, path=None):
-        return books('--scheduler', self.address, *arguments, python=dask(), path=path)
+    def books(self, *arguments):
+        return books('--scheduler', self.address, *arguments, python=dask())
 
     def test_equal_bytes(self):
         files = self.small(MANY)
@@ -347,7 +350,7 @@ class OnACluster(Folder):
         self.assertEqual((made.returncode, made.stdout), (0, self.lines_of(files)), made.stderr)
 
     def test_a_worker_is_killed_half_way(self):
-        files, state = self.large(LONG), self.folder / 'state'
+        files, state = self.large(12), self.folder / 'state'
         lost, _ = self.worker(), self.worker()
         self.ready(2)
         command = [dask(), '-m', 'mixegorta_command', 'books', '--scheduler', self.address, '--resume', str(state), *map(str, files)]
@@ -364,21 +367,18 @@ class OnACluster(Folder):
         for _ in range(2):
             self.worker(path=path, nanny=True)
         self.ready(2)
-        made = self.books(*files[:9], self.book('deadly.book', DEADLY_BOOK), *files[9:], path=path)
+        made = self.books(*files[:9], self.book('deadly.book', b'deadly'), *files[9:])
         self.assertEqual((made.returncode, made.stdout), (1, self.lines_of(files).replace(b'unvalued 0', b'unvalued 1')), made.stderr)
         self.assertIn(b'deadly.book: not valued', made.stderr)
 
-    def test_a_file_that_kills_workers_alone(self):
-        """It is valued here, in a process of its own, and not called dead; that workers died is told."""
-        files, path = self.small(30), self.deadly(every=False)
-        self.worker(path=path, nanny=True)
+    def test_that_workers_died_is_told(self):
+        """Also where there is but one worker, and a nanny that starts it again."""
+        files = self.small(30)
+        self.worker(path=self.deadly(every=False), nanny=True)
         self.ready(1)
-        odd = self.book('deadly.book', DEADLY_BOOK)
-        made = self.books(*files[:9], odd, *files[9:])
-        self.assertEqual((made.returncode, made.stdout), (0, self.lines_of([*files[:9], odd, *files[9:]])), made.stderr)
-        self.assertRegex(
-            made.stderr.decode(),
-            r'\A1 task was valued here, since the workers that took it died; look at the logs of the workers\n\Z')
+        made = self.books(*files[:9], self.book('deadly.book', b'deadly'), *files[9:])
+        self.assertEqual((made.returncode, made.stdout), (1, self.lines_of(files).replace(b'unvalued 0', b'unvalued 1')), made.stderr)
+        self.assertIn(b'31 files ran once more, each alone, since the workers that took them died; look at the logs of the workers\n', made.stderr)
 
     def test_a_scheduler_that_is_killed(self):
         """Wherever the command stands, it ends with a sentence and 2, keeps what was done, and goes on from there."""
@@ -412,22 +412,10 @@ class OnACluster(Folder):
         self.assertEqual((made.returncode, made.stdout, made.stderr.count(b'\n')), (2, b'', 1), made.stderr)
         self.assertIn(b'it has no worker after 2 seconds; start one by', made.stderr)
 
-    def test_healthy_files_that_waited_on_a_worker_that_died(self):
-        """Dask counts a death against them too: they are valued here before any is called dead."""
-        from mixegorta_command import clusters
-        files = self.small(5)
-        cluster = clusters.Cluster.__new__(clusters.Cluster)
-        cluster.distributed, cluster.deaths, cluster.apart = types.SimpleNamespace(KilledWorker=ValueError), 0, 0
-        cluster.window, cluster.address = 4, 'tcp://nowhere'
-        batch = nights.Batch([0, 1, 2, 3, 4], [file.read_bytes() for file in files], [None] * 5)
-        for taken in (batch, *nights.singles(batch)):
-            answer, = cluster._failed(ValueError('killed'), taken)
-            self.assertEqual(answer.reports, [m.report_of_file(content) for content in taken.contents])
-
     def test_a_worker_that_dies_on_every_task(self):
         self.worker(path=self.deadly(every=True), nanny=True)
         self.ready(1)
-        made = self.books(*self.small(MANY))
+        made = self.books(*self.small(200))
         self.assertEqual((made.returncode, made.stdout, made.stderr.count(b'\n')), (2, b'', 1), made.stderr)
         self.assertIn(b'every worker that took a task died', made.stderr)
 
@@ -446,6 +434,63 @@ class OnACluster(Folder):
         made = self.books(*self.small(3))
         self.assertEqual((made.returncode, made.stdout, made.stderr.count(b'\n')), (2, b'', 1), made.stderr)
         self.assertIn(b'install mixegorta', made.stderr)
+
+
+class Killed(Exception):
+    """What Dask raises of a task whose workers died."""
+
+
+class Future:
+    """A task of a cluster that counts the death of a worker against every task that waited on it."""
+
+    def __init__(self, contents):
+        self.contents, self.status = contents, 'pending'
+
+    def result(self, timeout):
+        return valuing.valued(self.contents)
+
+    def exception(self, timeout):
+        return Killed('killed')
+
+
+class Suspected(Folder):
+    """Files whose workers die, on a cluster that is only acted."""
+
+    def night(self, deadly, files, window=4):
+        """A night on a cluster whose workers die on these bytes, with how many tasks waited together each time."""
+        waited, cluster = [], clusters.Cluster.__new__(clusters.Cluster)
+
+        def wait(futures, timeout, return_when):
+            waited.append(len(futures))
+            died = any(content in deadly for future in futures for content in future.contents)
+            for future in futures:
+                future.status = 'error' if died else 'finished'
+            return types.SimpleNamespace(done=futures)
+
+        cluster.distributed, cluster.address, cluster.window = types.SimpleNamespace(KilledWorker=Killed, wait=wait), 'tcp://nowhere', window
+        cluster.client = types.SimpleNamespace(id='acted', submit=lambda task, contents, key, pure: Future(contents), close=lambda timeout: None)
+        cluster.running, cluster.suspects, cluster.alone, cluster.late, cluster.closed = {}, [], None, (TimeoutError,), False
+        cluster.deaths = cluster.deaths_alone = cluster.answered = cluster.number = cluster.apart = 0
+        night = nights.Night([str(file) for file in files])
+        night.value(cluster)
+        return night, cluster, waited
+
+    def test_healthy_files_that_waited_on_a_worker_that_died(self):
+        """They are valued alone before any is called dead; the one that kills its workers then is."""
+        files = self.small(150)
+        deadly = self.book('deadly.book', b'deadly')
+        night, cluster, waited = self.night([b'deadly'], [*files[:9], deadly, *files[9:]])
+        self.assertEqual(night.unvalued, {9: nights.DIED})
+        self.assertEqual([report for report in night.reports if report is not None], [m.report_of_file(file.read_bytes()) for file in files])
+        self.assertEqual((waited[0], set(waited[2:]), cluster.told().split()[0]), (4, {1}, str(len(waited[2:]))))
+        self.assertIsNone(self.night([], files)[1].told())
+
+    def test_workers_that_die_on_every_task(self):
+        """Three files that ran alone tell it where nothing was answered; of a small night too."""
+        for count in (3, 200):
+            files = self.small(count)
+            with self.assertRaisesRegex(streams.Stop, 'every worker that took a task died'):
+                self.night([file.read_bytes() for file in files], files)
 
 
 class PlainProcesses(Folder):

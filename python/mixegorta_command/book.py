@@ -35,7 +35,7 @@ def report_data(report):
 def put_report(names, form, framed, standard_input):
     """Shows the report of the named jobs, or of a book by standard input; with framed it writes the book. The status."""
     book = b''.join(map(field, names)) if names else (
-        kinds.expected(standard_input(), 'standard input', 'book', kinds.BOOK))
+        kinds.expected(standard_input(), 'standard input', 'book', kinds.BOOK, kinds.PLAIN))
     report = book if framed else engine.printed('book', book)
     if not framed and not REPORT.fullmatch(report.decode('ascii', 'replace')):
         raise Stop('output is lost: the program printed no whole report; run it again')

@@ -4,7 +4,7 @@ import logging
 import time
 import warnings
 
-from .nights import Answer, answered_apart, library, reports_of, singles
+from .nights import Answer, library, reports_of, singles
 from .streams import Stop
 from .valuing import valued
 
@@ -12,8 +12,8 @@ INSTALL = 'install Dask, in Debian by `apt install python3-distributed`, or leav
 CONNECT_SECONDS, WORKER_SECONDS, ALONE_SECONDS, ANSWER_SECONDS, ASK_SECONDS = 10, 30, 60, 60, 2
 TASKS_A_THREAD, FEWEST_TASKS = 3, 4
 # So many tasks after one another whose workers all died, and more than twice those that wait on workers: it is the
-# cluster and not a file.
-MOST_DEATHS = 12
+# cluster and not a file. Fewer that ran alone tell it as long as no task was answered.
+FIRST_DEATHS, MOST_DEATHS = 3, 12
 # What Dask raises of a scheduler that is gone; a cancelled task is no Exception.
 LOST = (Exception, asyncio.CancelledError)
 GO_ON = 'what is done is kept with --resume, and the same command goes on'
@@ -31,7 +31,9 @@ class Cluster:
         # what Dask logs of a lost connection the command tells itself, in one sentence
         logging.disable(logging.CRITICAL)
         self.distributed, self.address, self.running = distributed, address, {}
-        self.deaths, self.number, self.apart, self.closed = 0, 0, 0, False
+        self.deaths, self.deaths_alone, self.answered, self.number, self.closed = 0, 0, 0, 0, False
+        # files whose tasks lost their workers beside others, and of these the one that runs alone
+        self.suspects, self.alone, self.apart = [], None, 0
         self.late = TimeoutError, distributed.TimeoutError
         self.alone_since, self.window = None, FEWEST_TASKS
         self.client = None
@@ -89,12 +91,15 @@ class Cluster:
         return len(self.running) >= self.window
 
     def busy(self):
-        return bool(self.running)
+        return bool(self.running or self.suspects)
 
     def _done(self):
         return self.distributed.wait(list(self.running), timeout=ASK_SECONDS, return_when='FIRST_COMPLETED').done
 
     def finished(self):
+        if not self.running:
+            self.alone = self.suspects.pop(0)
+            self.submit(self.alone)
         try:
             done = self._asked(self._done)
         except self.late:
@@ -108,33 +113,32 @@ class Cluster:
             raise Stop(f'--scheduler {self.address}: it is lost; {GO_ON}')
         if future.status == 'finished':
             found = self._answered(lambda: future.result(timeout=ANSWER_SECONDS))
-            self.deaths = 0
+            self.deaths, self.deaths_alone, self.answered = 0, 0, self.answered + 1
             return [Answer(batch, reports_of(found))]
         return self._failed(self._answered(lambda: future.exception(timeout=ANSWER_SECONDS)), batch)
 
     def _failed(self, error, batch):
         """What becomes of a batch whose task failed. Dask counts a death against every task that waited on the worker,
-        so a batch is valued in a process of its own here before any of its files is called dead; a file that dies here
-        too explains the deaths before it."""
+        so each file of the batch runs once more when nothing else waits; one that kills its workers then is called dead."""
         if not isinstance(error, self.distributed.KilledWorker):
             version = library().__version__
             raise Stop(f'a worker could not value ({type(error).__name__}: {error}): install mixegorta {version} where the workers run')
         self.deaths += 1
-        if self.deaths >= max(MOST_DEATHS, 2 * self.window):
+        self.deaths_alone += batch is self.alone
+        if self.deaths >= max(MOST_DEATHS, 2 * self.window) or not self.answered and self.deaths_alone >= FIRST_DEATHS:
             raise Stop(f'--scheduler {self.address}: every worker that took a task died, {self.deaths} tasks in a row; look at the logs of the workers; {GO_ON}')
-        whole = answered_apart(batch)
-        if whole.reports is not None:
-            self.apart += 1
-            return [whole]
-        self.deaths = 0
-        return [whole] if len(batch.places) == 1 else [answered_apart(one) for one in singles(batch)]
+        if batch is self.alone:
+            return [Answer(batch, None)]
+        self.suspects += singles(batch)
+        self.apart += len(batch.places)
+        return []
 
     def told(self):
-        """What a desk should know of a night that is done: that workers died, though everything is valued."""
+        """What a desk should know of a night that is done: that workers died, though files were valued later."""
         if not self.apart:
             return None
-        words = '1 task was valued here, since the workers that took it died' if self.apart == 1 else (
-            f'{self.apart:,} tasks were valued here, since the workers that took them died')
+        words = '1 file ran once more, alone, since the workers that took it died' if self.apart == 1 else (
+            f'{self.apart:,} files ran once more, each alone, since the workers that took them died')
         return f'{words}; look at the logs of the workers'
 
     def close(self):

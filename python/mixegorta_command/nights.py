@@ -282,7 +282,7 @@ class Night:
         try:
             with open(self.names[place], 'rb') as file:
                 content = file.read(MOST_BYTES)
-            wrong = kinds.mistaken(content, kinds.BOOK)
+            wrong = kinds.mistaken(content, kinds.BOOK, kinds.PLAIN)
             if wrong is None:
                 return content
             self.others.add(place)

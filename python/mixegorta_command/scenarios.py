@@ -184,7 +184,7 @@ def put_scenarios(given):
     if given.file in (None, '-') and given.curves == '-':
         raise Stop('the book and --curves cannot both come by standard input')
     count = processors() if given.processes is None else whole(given.processes)
-    book = kinds.expected(content_of(given.file), named(given.file), 'book', kinds.BOOK)
+    book = kinds.expected(content_of(given.file), named(given.file), 'book', kinds.BOOK, kinds.PLAIN)
     curves, plan = curves_of(given.curves), Plan(book)
     if given.keep is not None:
         keep(given.keep, book, plan, curves)
