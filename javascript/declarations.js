@@ -221,7 +221,7 @@ export const REFUSALS = [
         'the tree is too wide: less volatility, fewer or shorter steps, or more reversion narrow it'],
     [9, 'NodeDiscountOutOfRange',
         'a node discount is 0 or above 1,100,000,000',
-        'look for a quote out of line with its neighbours; then fewer or shorter steps or more reversion help; less volatility does too, but is another model with other prices'],
+        'look for a quote out of line with its neighbours; then less volatility, more reversion, fewer or shorter steps help'],
     [10, 'FlowTooLarge',
         'a flow is above 2,000,000,000',
         'give flows for a notional of one and multiply the price'],

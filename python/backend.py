@@ -32,7 +32,7 @@ TEXTS = {
 KINDS = (".py", ".typed", ".html", ".js")
 REFERENCE = ("reference.py", "book.py")
 # The examples that the command lists, below the folder of examples.
-EXAMPLES = ("*.txt", "*.book", "notes/*")
+EXAMPLES = ("*.txt", "*.book", "*.csv", "notes/*")
 
 
 def say(words):

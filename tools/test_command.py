@@ -213,7 +213,7 @@ class Carried(unittest.TestCase):
     def test_the_list_names_each_once(self):
         listed = [line.split()[0] for line in mixegorta('example').stdout.decode().splitlines()]
         self.assertEqual(listed, list(examples.files()))
-        self.assertLess({'coupon-put', 'desk.book', 'notes.book', 'curves.csv'}, set(listed))
+        self.assertLess({'coupon-put', 'desk.book', 'desk-curves.csv', 'notes.book', 'curves.csv'}, set(listed))
         self.assertEqual([row['example'] for row in json.loads(mixegorta('example', '--json').stdout)], listed)
         self.assertEqual([row[0] for row in rows_of(mixegorta('example', '--csv'))[1:]], listed)
         for name in listed:

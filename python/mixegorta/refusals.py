@@ -40,7 +40,7 @@ ADVICE: Dict[int, str] = {
     6: "correct the calling program",
     7: "look for a rate in percent (3.2 for 0.032), or a rate given as a discount",
     8: "the tree is too wide: less volatility, fewer or shorter steps, or more reversion narrow it",
-    9: "look for a quote out of line with its neighbours; then fewer or shorter steps or more reversion help; less volatility does too, but is another model with other prices",
+    9: "look for a quote out of line with its neighbours; then less volatility, more reversion, fewer or shorter steps help",
     10: "give flows for a notional of one and multiply the price",
     11: "expiry is a row before the last one, not a year, and the strike is for a notional of one",
     12: "give flows and strike for a smaller notional and multiply the price",

@@ -7,10 +7,8 @@ from .streams import Stop, put
 HERE = pathlib.Path(__file__).resolve().parent
 # The folder of the installed package, or that of a clone.
 PLACES = (HERE / 'examples', HERE.parent.parent / 'examples')
-PATTERNS = ('*.txt', '*.book', 'notes/*.txt', 'notes/*.book', 'notes/*.csv')
-OTHERS = {
-    '.book': 'a book of jobs, for `mixegorta books` and `mixegorta scenarios`',
-    '.csv': 'curves to value notes.book under, for `mixegorta scenarios`'}
+PATTERNS = ('*.txt', '*.book', '*.csv', 'notes/*.txt', 'notes/*.book', 'notes/*.csv')
+BOOK = 'a book of jobs, for `mixegorta books` and `mixegorta scenarios`'
 
 
 def files(place=None):
@@ -24,8 +22,11 @@ def files(place=None):
 
 
 def words_of(path):
-    """What an example says of itself: the first line of a text without its mark."""
-    return OTHERS.get(path.suffix) or path.read_text(encoding='utf-8').partition('\n')[0].lstrip('# ')
+    """What an example says of itself, the first line of a text without its mark, or what it is for: curves are for the
+    book beside them."""
+    if path.suffix == '.csv':
+        return f'curves to value {next(path.parent.glob("*.book")).name} under, for `mixegorta scenarios`'
+    return BOOK if path.suffix == '.book' else path.read_text(encoding='utf-8').partition('\n')[0].lstrip('# ')
 
 
 def put_example(name, form):

@@ -35,7 +35,7 @@ REFUSALS = {
     ),
     9: (
         'a node discount is 0 or above 1,100,000,000',
-        'look for a quote out of line with its neighbours; then fewer or shorter steps or more reversion help; less volatility does too, but is another model with other prices',
+        'look for a quote out of line with its neighbours; then less volatility, more reversion, fewer or shorter steps help',
     ),
     10: (
         'a flow is above 2,000,000,000',
