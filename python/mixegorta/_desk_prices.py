@@ -25,7 +25,7 @@ class Priced(NamedTuple):
     bound: Decimal
 
     def __str__(self) -> str:
-        return f"{self.value:f}, exact on this tree to {self.bound:f}"
+        return f"{self.value:.7f}, exact on this tree to {self.bound:.7f}"
 
 
 def per_100(price: Price) -> Priced:
@@ -81,7 +81,7 @@ class StepEstimate(NamedTuple):
     difference: Decimal
 
     def __str__(self) -> str:
-        return f"what the steps cost, an estimate: {self.difference:+f} with {self.frequency} steps a year in their place"
+        return f"what the steps cost, an estimate: {self.difference:+.7f} with {self.frequency} steps a year in their place"
 
 
 class Answer(Tabled):
@@ -110,7 +110,7 @@ class Answer(Tabled):
         if self.option is not None and isinstance(self.instrument, BondWithOption):
             lines += [("call" if self.instrument.kind == "callable" else "put", *self.option)]
         lines += [(f"{_kind(self.instrument)}, dirty", *self.total), ("accrued", self.accrued, None), (f"{_kind(self.instrument)}, clean", *self.clean)]
-        return Table(("what", "per 100", "exact on this tree to"), lines)
+        return Table(("what", "per 100", "exact on this tree to"), lines, ("per 100", "exact on this tree to"))
 
     def __str__(self) -> str:
         estimate = self.estimate or "what the steps cost: there is no estimate, since no other tree has every day on a row"
@@ -235,7 +235,8 @@ class Strip(Tabled):
             option = answer.option or Priced(Decimal(0), Decimal(0))
             cost = None if answer.estimate is None else answer.estimate.difference
             lines.append((at, option.value, option.bound, answer.total.value, answer.total.bound, answer.clean.value, cost))
-        return Table(("at", "option", "exact on this tree to", "dirty", "its exact on this tree to", "clean", "what the steps cost, an estimate"), lines)
+        columns = ("at", "option", "exact on this tree to", "dirty", "its exact on this tree to", "clean", "what the steps cost, an estimate")
+        return Table(columns, lines, columns[1:])
 
     def __str__(self) -> str:
         refused = [(at, answer) for at, answer in zip(self.at, self.answers) if isinstance(answer, Refused)]

@@ -7,27 +7,32 @@ BESIDE = "Beside the proved core: the prices are the engine's, with its bounds; 
 
 
 class Table(List[Dict[str, Any]]):
-    """Rows as dicts of one set of columns, in the columns' order."""
+    """Rows as dicts of one set of columns, in the columns' order. Nothing in a column of prices per 100 is shown with their decimals."""
 
-    def __init__(self, columns: Sequence[str], rows: Sequence[Sequence[Any]]) -> None:
+    def __init__(self, columns: Sequence[str], rows: Sequence[Sequence[Any]], prices: Sequence[str] = ()) -> None:
         super().__init__(dict(zip(columns, row)) for row in rows)
-        self.columns = list(columns)
+        self.columns, self.prices = list(columns), prices
+
+    def _cells(self, row: Dict[str, Any]) -> List[str]:
+        return [text(value, name in self.prices) for name, value in row.items()]
 
     def __str__(self) -> str:
-        lines = [self.columns, *([text(value) for value in row.values()] for row in self)]
+        lines = [self.columns, *map(self._cells, self)]
         widths = [max(len(line[place]) for line in lines) for place in range(len(self.columns))]
         return "\n".join("  ".join(cell.rjust(width) for cell, width in zip(line, widths)).rstrip() for line in lines)
 
     def _repr_html_(self) -> str:
         heads = "".join(f"<th>{html.escape(name)}</th>" for name in self.columns)
-        lines = ("".join(f"<td>{html.escape(text(value))}</td>" for value in row.values()) for row in self)
+        lines = ("".join(f"<td>{html.escape(cell)}</td>" for cell in self._cells(row)) for row in self)
         return f"<table><thead><tr>{heads}</tr></thead><tbody>{''.join(f'<tr>{line}</tr>' for line in lines)}</tbody></table>"
 
 
-def text(value: Any) -> str:
-    """A cell: nothing for None, and a number in plain digits."""
+def text(value: Any, is_price: bool = False) -> str:
+    """A cell: nothing for None, and a number in plain digits, of which a price has seven decimals."""
     if value is None:
         return ""
+    if is_price:
+        return f"{value:.7f}"
     return f"{value:f}" if hasattr(value, "as_tuple") else str(value)
 
 

@@ -278,6 +278,9 @@ class Words(unittest.TestCase):
     def test_nothing_is_zero_in_plain_digits(self):
         answer = desk.price(BOND.callable(on="5Y", at=200), CURVE, MODEL)
         self.assertEqual((str(answer.accrued), str(answer.option.value), answer.option.value), ("0", "0", 0))
+        self.assertEqual([line.split()[:2] for line in str(answer.rows()).splitlines() if line.split()[0] in ("call", "accrued")],
+                         [["call", "0.0000000"], ["accrued", "0.0000000"]])
+        self.assertTrue(str(answer.option).startswith("0.0000000, exact on this tree to 0.0000"))
 
     @unittest.skipUnless(importlib.util.find_spec("numpy"), "numpy is not installed")
     def test_arrays_of_numpy(self):
