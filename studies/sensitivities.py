@@ -37,7 +37,7 @@ FORMER_CONVEXITY_BP = 25
 FIGURES = {'dv01': 4, 'convexity': 0, 'vega': 4}
 HEAD = ['curve', 'figure', 'median size', 'median error', 'greatest error', 'median estimate',
         'error within the estimate', 'not supported']
-MOVES_HEAD = ['curve', 'over 25 bp: median error', 'greatest', 'by default: median error', 'greatest',
+MOVES_HEAD = ['curve', 'over 25 bp: median error', 'greatest', 'over the widest: median error', 'greatest',
               'moves taken, bp']
 
 Note = namedtuple('Note', 'kind years first coupon')
@@ -88,10 +88,10 @@ def fine_figures(fitted, note, moves):
 
 
 def compared(curve, note, fitted):
-    """Each figure of a note by the desk beside the fine tree's, and the convexity over the former move."""
+    """Each figure of a note by the desk beside the fine tree's, and the convexity over the default move."""
     model, held = desk.Model(VOLATILITY_BP, REVERSION), instrument(note)
-    found = desk.sensitivities(held, curve, model)
-    former = desk.sensitivities(held, curve, model, convexity_bp=FORMER_CONVEXITY_BP)['convexity']
+    found = desk.sensitivities(held, curve, model, convexity_bp=None)
+    former = desk.sensitivities(held, curve, model)['convexity']
     taken = float(found['convexity'].move_bp)
     dv01, vega, convexities = fine_figures(fitted, note, {taken, float(FORMER_CONVEXITY_BP)})
     return {

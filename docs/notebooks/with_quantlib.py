@@ -27,6 +27,6 @@ bond.setPricingEngine(ql.DiscountingBondEngine(flat))
 answer = price()
 strip = [price(at=at) for at in (98.0, 99.0, 100.0, 101.0)]
 dv01 = (price(-1) - price(1)) / 2
-convexity = (price(-100) + price(100) - 2 * answer) / answer / 0.01 ** 2
+convexity = (price(-25) + price(25) - 2 * answer) / answer / 0.0025 ** 2
 vega = (price(volatility=0.0071) - price(volatility=0.0069)) / 2
 spread = ql.Brent().solve(lambda basis_points: price(basis_points) - 90, 1e-4, 0.0, -100.0, 100.0)

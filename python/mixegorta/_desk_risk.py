@@ -229,14 +229,14 @@ def _sizes(move_bp: Number, convexity_bp: Optional[Number]) -> Tuple[Decimal, Tu
 
 
 def sensitivities(instrument: Instrument, curve: Curve, model: Model, *, frequency: Optional[int] = None, keys: Sequence[str] = (), move_bp: Number = 1,
-                  convexity_bp: Optional[Number] = None) -> Sensitivities:
+                  convexity_bp: Optional[Number] = 25) -> Sensitivities:
     """Parallel and key-rate DV01, convexity and vega of the dirty price per 100, each with what the steps cost, an
     estimate.
 
     dv01 is half of the price at minus move_bp less that at plus, for one basis point of the continuous zero rates; each key's is the same about one
     of the key tenors. convexity is the second difference over a move, over the price, in years squared: over
-    convexity_bp, or without it over the first of 100, 50 and 25 basis points that the engine prices. vega is for one
-    basis point of volatility. A figure that is less than its estimate is marked as not supported.
+    convexity_bp, or where that is None over the first of 100, 50 and 25 basis points that the engine prices. vega is for
+    one basis point of volatility. A figure that is less than its estimate is marked as not supported.
     """
     checked(instrument, curve, model)
     size, moves = _sizes(move_bp, convexity_bp)

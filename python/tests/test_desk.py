@@ -381,16 +381,15 @@ class Risk(unittest.TestCase):
         found = desk.sensitivities(BOND, CURVE, MODEL, keys=["2Y", "5Y", "10Y"])
         flows = [(time, (1.5 + 100 * (time == 10)) * rate) for time, rate in zip(range(1, 11), discounts(1, 10))]
         dv01 = sum(value * math.sinh(time / 10_000) for time, value in flows)
-        move = float(found["convexity"].move_bp) / 10_000
-        convexity = sum(2 * value * (math.cosh(move * time) - 1)
-                        for time, value in flows) / sum(value for _, value in flows) / move ** 2
+        convexity = sum(2 * value * (math.cosh(0.0025 * time) - 1) for time, value in flows) / sum(value for _, value in flows) / 0.0025 ** 2
         for name, wanted in (("dv01", dv01), ("convexity", convexity), ("vega", 0)):
             self.assertLessEqual(float(found[name].low), wanted, name)
             self.assertGreaterEqual(float(found[name].high), wanted, name)
-        narrow = desk.sensitivities(BOND, CURVE, MODEL, convexity_bp=25)["convexity"]
-        convexity = sum(2 * value * (math.cosh(0.0025 * time) - 1) for time, value in flows) / sum(value for _, value in flows) / 0.0025 ** 2
-        self.assertLessEqual(float(narrow.low), convexity)
-        self.assertGreaterEqual(float(narrow.high), convexity)
+        wide = desk.sensitivities(BOND, CURVE, MODEL, convexity_bp=None)["convexity"]
+        convexity = sum(2 * value * (math.cosh(0.01 * time) - 1) for time, value in flows) / sum(value for _, value in flows) / 0.01 ** 2
+        self.assertEqual(wide.move_bp, 100)
+        self.assertLessEqual(float(wide.low), convexity)
+        self.assertGreaterEqual(float(wide.high), convexity)
         keyed = [found[f"dv01 {key}"] for key in ("2Y", "5Y", "10Y")]
         self.assertAlmostEqual(float(sum(each.value for each in keyed)), dv01, delta=float(4 * found.price.bound))
         self.assertIn("exact on this tree", str(found))
@@ -411,7 +410,7 @@ class Risk(unittest.TestCase):
         curve = desk.Curve({"3M": 5.3, "1Y": 5, "2Y": 4.5, "5Y": 4.1, "10Y": 4.2}, compounding="yearly")
         bond, model = desk.Bond("4.5", "10Y"), desk.Model(100, "0.05")
         note = bond.callable(on=bond.coupon_days(first="3Y"), at=100)
-        found = desk.sensitivities(note, curve, model)
+        found = desk.sensitivities(note, curve, model, convexity_bp=None)
         for name, fine in (("dv01", 0.0510), ("convexity", -92.5), ("vega", -0.0368)):
             figure = found[name]
             self.assertTrue(figure.supported)
@@ -419,7 +418,7 @@ class Risk(unittest.TestCase):
         self.assertFalse(found["dv01"].low <= Decimal("0.0510") <= found["dv01"].high)
         self.assertEqual((found["convexity"].move_bp, str(found["convexity"].shown), str(found["dv01"].shown)),
                          (100, "-87", "0.0499"))
-        narrow = desk.sensitivities(note, curve, model, convexity_bp=25)
+        narrow = desk.sensitivities(note, curve, model)
         self.assertFalse(narrow["convexity"].supported)
         self.assertIn("not supported", str(narrow["convexity"]))
         self.assertIn("convexity is not supported: what the steps cost, an estimate, is more than the figure.",
@@ -463,7 +462,8 @@ class Risk(unittest.TestCase):
         found = desk.sensitivities(desk.Bond(1, "5Y"),
                                    desk.Curve({"5Y": Decimal(edge) / 100}, compounding="continuous"),
                                    desk.Model(50, 0),
-                                   frequency=1)
+                                   frequency=1,
+                                   convexity_bp=None)
         self.assertEqual(found["convexity"].move_bp, 50)
         self.assertIsNotNone(found["convexity"].estimate)
 
