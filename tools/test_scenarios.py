@@ -104,18 +104,18 @@ class Scenarios(unittest.TestCase):
         job = m.Job.read(texts.job_of(ONE_STEP.read_bytes(), 'one'))
         book = self.put('one.book', m.book_of_jobs([job.to_bytes()] * 3))
         given = book, '--curves', self.table(line('same', 1, 'discount', job.quotes[0].figure)), '--keep', self.folder, '--json'
-        row, bonds = (json.loads(self.shown(*given, *more))[1] for more in ((), ('--bonds',)))
+        row, both = (json.loads(self.shown(*given, *more))[1] for more in ((), ('--held',)))
+        self.assertEqual((row['from_base'], row['from_base_most'], row['compared']), ('0.000000000', '0.000000012', 3))
         # two billionths of bond and two of option, in base and scenario, for each of three jobs
-        self.assertEqual((row['from_base'], row['from_base_most'], row['compared']), ('0.000000000', '0.000000024', 3))
-        self.assertEqual((bonds['from_base'], bonds['from_base_most'], bonds['compared']), ('0.000000000', '0.000000012', 3))
+        self.assertEqual((both['from_base'], both['from_base_most'], both['compared']), ('0.000000000', '0.000000024', 3))
         self.assertEqual((self.folder / 'same.book').read_bytes(), book.read_bytes())
 
     def test_exact_differences(self):
         """Over the jobs that base and scenario both price: the reference's exact bonds, and what is held with its exact
         options."""
-        for more, worth in (((), held), (('--bonds',), lambda job: reference.exact_total(reference.framed(job)))):
+        for more, worth in ((('--held',), held), ((), lambda job: reference.exact_total(reference.framed(job)))):
             given = self.book, '--curves', self.levels(a=0.02, b=-0.004), '--keep', self.folder, '--csv', *more
-            rows = list(csv.DictReader(io.StringIO(command('scenarios', *given).stdout.decode())))
+            rows = list(csv.DictReader(io.StringIO(self.shown(*given).decode())))
             base, *books = (reference.taken((self.folder / f'{row["scenario"]}.book').read_bytes())[0] for row in rows)
             for row, jobs in zip(rows[1:], books):
                 both = [
@@ -128,13 +128,13 @@ class Scenarios(unittest.TestCase):
                                  (int(row['compared']), True))
 
     def test_what_is_held(self):
-        """Bonds less calls and with puts, by the prices of the jobs; --bonds leaves the options out, and may rank
-        otherwise."""
+        """Bonds less calls and with puts, by the prices of the jobs; without --held the options are left out, which may
+        rank otherwise."""
         job = m.Job.read(texts.job_of((NOTES / 'callable.txt').read_bytes(), 'callable'))
         called = job._replace(flows=[5 * 10 ** 7] * 9 + [m.ONE], option=m.DatedOption(m.CALL, m.ONE, tuple(range(10))))
         book = self.put('held.book', m.book_of_jobs([called.to_bytes(), self.jobs[0]]))
         table = self.levels(low=0.001, high=0.02)
-        rows, bonds = (json.loads(self.shown(book, '--curves', table, '--json', *more)) for more in ((), ('--bonds',)))
+        rows, bonds = (json.loads(self.shown(book, '--curves', table, '--json', *more)) for more in (('--held',), ()))
         for row in rows:
             self.shown(book, '--curves', table, '--keep', self.folder)
             jobs = splices.fields_of((self.folder / f'{row["scenario"]}.book').read_bytes())[0]
@@ -197,7 +197,7 @@ class Scenarios(unittest.TestCase):
         base = [quote.figure for quote in records[0].quotes]
         for name, move in (('up 100 bp', 0.01), ('down 100 bp', -0.01)):
             self.assertEqual([round(own - figure, 9) for own, figure in zip(moved[name], base)], [move] * len(base))
-        rows = json.loads(self.shown(NOTES / 'notes.book', '--curves', NOTES / 'curves.csv', '--json'))
+        rows = json.loads(self.shown(NOTES / 'notes.book', '--curves', NOTES / 'curves.csv', '--held', '--json'))
         self.assertEqual([row['scenario'] for row in rows], ['base', 'up 100 bp', 'steeper', 'flatter', 'down 100 bp'])
         self.assertTrue(float(rows[1]['from_base']) < -0.1 and float(rows[-1]['from_base']) > 0.1)
 

@@ -82,11 +82,11 @@ between semicolons, figures may have decimal commas, and words any letter case. 
 of the book's jobs, with at least as many figures as these have steps. Its figures take the place of every job's quotes,
 and nothing else of a job changes.
 
-Shown are the base, which is the book as it is, and then a row for each scenario. `held` is what a desk holds: bonds, less
-the calls and with the puts that jobs have. `from base` is its difference from the base, with the least and the most that
-the exact difference can be, over the jobs that base and scenario both price; `compared` tells how many. Scenarios that
-refuse jobs which the base prices come first, are marked, and are told on standard error; the others follow, the greatest
-loss first. --bonds compares and ranks the bonds alone, without their options.
+Shown are the base, which is the book as it is, and then a row for each scenario. `from base` is the difference of the
+bonds from the base, with the least and the most that the exact difference can be, over the jobs that base and scenario
+both price; `compared` tells how many. Scenarios that refuse jobs which the base prices come first, are marked, and are
+told on standard error; the others follow, the greatest loss first. --held compares and ranks what a desk holds: bonds,
+less the calls and with the puts that jobs have.
 --keep FOLDER writes the book of each scenario there. --picture FILE draws the differences as SVG. --progress shows the
 bar where standard error is no terminal too.
 
@@ -146,7 +146,7 @@ def fill(parser, part):
         parser.add_argument('--keep', metavar='FOLDER', help="write each scenario's book there")
         parser.add_argument('--picture', metavar='FILE', help='draw the totals, as SVG')
         parser.add_argument('--processes', metavar='N', help='so many processes; without it one for each processor')
-        parser.add_argument('--bonds', action='store_true', help='compare and rank the bonds alone')
+        parser.add_argument('--held', action='store_true', help='compare and rank what a desk holds, with the options')
         parser.add_argument('--progress', action='store_true', help='show the progress without a terminal too')
 
 

@@ -185,15 +185,15 @@ def put_scenarios(given):
         raise Stop('the book and --curves cannot both come by standard input')
     count = processors() if given.processes is None else whole(given.processes)
     book = kinds.expected(content_of(given.file), named(given.file), 'book', kinds.BOOK, kinds.PLAIN)
-    curves, plan = curves_of(given.curves), Plan(book)
+    curves, plan, bonds = curves_of(given.curves), Plan(book), not given.held
     if given.keep is not None:
         keep(given.keep, book, plan, curves)
     found, base = all_totals(plan, curves, count, given.progress), plan.base_totals()
-    names = ranked(found, base, given.bonds)
+    names = ranked(found, base, bonds)
     shown = {BASE: base, **{name: found[name] for name in names}}
-    rows = [row_of(name, totals, base, given.bonds) for name, totals in shown.items()]
+    rows = [row_of(name, totals, base, bonds) for name, totals in shown.items()]
     if given.picture is not None:
-        put_picture(given.picture, rows, given.bonds)
-    put_rows(rows, given.form, given.bonds)
+        put_picture(given.picture, rows, bonds)
+    put_rows(rows, given.form, bonds)
     tell_lacking(names, found, base)
     return answers.SHOWN
