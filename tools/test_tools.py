@@ -15,7 +15,6 @@ import sys
 import tempfile
 import unittest
 import xml.etree.ElementTree as ElementTree
-from unittest import mock
 
 ROOT = pathlib.Path(__file__).resolve().parent.parent
 sys.path[:0] = [str(ROOT / 'reference'), str(ROOT / 'tools')]
@@ -578,17 +577,7 @@ class Drawing(unittest.TestCase):
 
     def test_jobs_as_bytes_and_of_other_sheets(self):
         sheet, text = TODAY_SHEET, ROOT / 'examples/one-step-today.txt'
-        pages = [
-            run('draw', sheet, '--page', '--job', str(path)).stdout.decode()
-            for path in (text, text.with_suffix('.job'))]
-        self.assertEqual(*(re.sub('<p id="source".*', '', page) for page in pages))
-        # Under one name and at one time all is the same, byte for byte.
-        with tempfile.TemporaryDirectory() as folder, mock.patch.dict(os.environ, SOURCE_DATE_EPOCH='1795000000'):
-            paths = [pathlib.Path(folder, kind, 'one-step-today') for kind in ('text', 'job')]
-            for path, source in zip(paths, (text, text.with_suffix('.job'))):
-                path.parent.mkdir()
-                path.write_bytes(source.read_bytes())
-            self.assertEqual(*(run('draw', sheet, '--page', '--job', str(path)).stdout for path in paths))
+        self.assertEqual(*(run('draw', sheet, '--page', '--job', str(path)).stdout for path in (text, text.with_suffix('.job'))))
         for other, line in (('coupon-put', 1), ('one-step', 1), ('refused', 1)):
             made = run('draw', sheet, '--job', str(ROOT / f'examples/{other}.txt'))
             self.assertEqual((made.returncode, made.stdout), (2, b''))
@@ -610,12 +599,12 @@ class Drawing(unittest.TestCase):
                            capture_output=True).stdout for _ in range(2)]
         self.assertEqual(*made)
         self.assertIn(
-            f'<p id="source" class="soft">coupon-put.txt, drawn on 2026-11-18 11:06 UTC by mixegorta {version}</p>',
+            f'<p id="source" class="soft">coupon-put, drawn on 2026-11-18 by mixegorta {version}</p>',
             made[0].decode())
         for given in (path.with_suffix('.sheet').read_bytes(), b'refused 9\n'):
             self.assertRegex(
                 run('draw', given, '--page').stdout.decode(),
-                rf'<p id="source".*>standard input, drawn on \d{{4}}-\d\d-\d\d .* by mixegorta {version}<')
+                rf'<p id="source".*>standard input, drawn on \d{{4}}-\d\d-\d\d by mixegorta {version}<')
 
     def test_pages(self):
         for path in EXAMPLES:

@@ -12,14 +12,15 @@ def version():
 
 
 def drawn_on():
-    """Date and time of now in UTC, or of the seconds that SOURCE_DATE_EPOCH names, so that a page can be made again
-    byte for byte."""
+    """Today in UTC, or the day of the seconds that SOURCE_DATE_EPOCH names, so that a page can be made again byte for
+    byte."""
     named = os.environ.get('SOURCE_DATE_EPOCH', '')
     now = datetime.datetime.now(datetime.timezone.utc)
     when = datetime.datetime.fromtimestamp(int(named), datetime.timezone.utc) if named.isdecimal() else now
-    return when.strftime('%Y-%m-%d %H:%M UTC')
+    return when.strftime('%Y-%m-%d')
 
 
 def source_of(name):
-    """A line that says which file a page is of, when it was drawn and by which version."""
-    return f'{os.path.basename(name) or name}, drawn on {drawn_on()} by mixegorta {version()}'
+    """A line that says which file a page is of, when it was drawn and by which version. The file has no ending here, since
+    a text and its job have one page."""
+    return f'{os.path.splitext(os.path.basename(name))[0] or name}, drawn on {drawn_on()} by mixegorta {version()}'
