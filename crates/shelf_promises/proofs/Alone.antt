@@ -69,6 +69,7 @@ alone-seen d e (committing name q) (commits _ _) same = commit-alone d e name sa
 alone-seen d e (releasing name) (releases _) same = cause-alone d e name same
 alone-seen d e (pricing name p) (prices _ _) same = ap (λ (x : Price). x.number) (price-alone d e name same p)
 alone-seen d e (locating name) (locates _) same = refl
+alone-seen d e (asking _ _ _) never same = elim never [ ]
 
 module _ (k j : Kept) (v : Valid k) (w : Valid j) where
   pub number-alone : (call : Call) → Alone call → seen k (name_of call - 1) ≡ seen j (name_of call - 1) → number_of k call ≡ number_of j call
