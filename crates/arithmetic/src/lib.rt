@@ -116,14 +116,12 @@ fn next_above(xs: &[u64], best: u64, from: usize) -> usize
     requires { (from ≤ length xs.now) × (best ≡ greatest from (values xs.now)) }
     ensures { (from ≤ result) × (result ≤ length xs.now) × (best ≡ greatest result (values xs.now)) }
 {
-    let mut k: usize = from;
-    while k < xs.len() {
+    for k in from..xs.len() {
         if best < xs[k] {
             return k;
         }
-        k += 1;
     }
-    k
+    xs.len()
 }
 
 // The greatest of a row, 0 where it is empty. A search between the few places where it grows costs less than a choice at each.
@@ -146,16 +144,13 @@ pub fn greatest_of(xs: &[u64]) -> u64
 pub fn all_between(low: u64, high: u64, xs: &[u64]) -> bool
     ensures { result ≡ each (length xs.now) (between low high (values xs.now)) }
 {
-    let mut k: usize = 0;
-    while k < xs.len() {
-        let x = xs[k];
-        if x < low {
+    for x in xs {
+        if *x < low {
             return false;
         }
-        if high < x {
+        if high < *x {
             return false;
         }
-        k += 1;
     }
     true
 }
