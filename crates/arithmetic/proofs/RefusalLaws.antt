@@ -1,0 +1,34 @@
+-- Laws of refusals by their numbers.
+-- Assumes nothing.
+use Rattle.std.proofs.Common.{◌≡◌, ℕ, arith, refl, Result, Ok, Err}
+use Rattle.arithmetic.specs.declared.Refusal.{Refusal}
+use Rattle.arithmetic.specs.declared.Refusal.TheVariants.{Job, Frequency, Steps, Reversion, Volatility, LengthOrRow, Quote, Spacing, Discount, Flow, Option, Value, Dates, Nodes, Name, Band, NoBand, SeveralBands, PairSteps}
+use Rattle.std.specs.Result.{result_unwrap_or}
+use Rattle.arithmetic.specs.Refusals.{number_of, answer_of}
+
+-- no refusal has the number of none
+pub refusal-some : (r : Refusal) → number_of r ≡ 0 → ⊥
+refusal-some Job e = omega arith
+refusal-some Frequency e = omega arith
+refusal-some Steps e = omega arith
+refusal-some Reversion e = omega arith
+refusal-some Volatility e = omega arith
+refusal-some LengthOrRow e = omega arith
+refusal-some Quote e = omega arith
+refusal-some Spacing e = omega arith
+refusal-some Discount e = omega arith
+refusal-some Flow e = omega arith
+refusal-some Option e = omega arith
+refusal-some Value e = omega arith
+refusal-some Dates e = omega arith
+refusal-some Nodes e = omega arith
+refusal-some Name e = omega arith
+refusal-some Band e = omega arith
+refusal-some NoBand e = omega arith
+refusal-some SeveralBands e = omega arith
+refusal-some PairSteps e = omega arith
+
+-- the number that is answered, or 0 where there is none
+pub value-or : (r : Result ℕ Refusal) → result_unwrap_or r 0 ≡ (answer_of r).value
+value-or (Ok value) = refl
+value-or (Err refusal) = refl
