@@ -17,17 +17,47 @@ ghost use Rattle.lattice.specs.Entries.{
   refused_shape,
   shape_of,
   row_shape_answer,
+  branches_of,
 };
 
 use arithmetic::Refusal;
 
 // Where a node leads: to `lowest` and the two nodes above it, with probabilities up, middle, down over 600,000,000.
+#[derive(Clone, Copy, Debug, PartialEq, Eq)]
+pub struct Branch {
+    pub lowest: i64,
+    pub probabilities: [u64; 3],
+}
+
+// A branch as C sees it: number 0, or the refusal's number with zeros.
 #[repr(C)]
 #[derive(Drop)]
 pub struct Branches {
     pub number: u64,
     pub lowest: i64,
     pub probabilities: [u64; 3],
+}
+
+impl From<Result<Branch, Refusal>> for Branches {
+    ghost from_gives = { λ outcome branches. branches ≡ branches_of outcome };
+
+    fn from(outcome: Result<Branch, Refusal>) -> Branches {
+        match outcome {
+            Ok(branch) => {
+                let probabilities = branch.probabilities;
+                Branches {
+                    number: 0,
+                    lowest: branch.lowest,
+                    probabilities,
+                }
+            }
+            Err(refusal) => Branches {
+                number: refusal.number(),
+                lowest: 0,
+                probabilities: [0, 0, 0],
+            },
+        }
+    }
 }
 
 // Where a row stands: in a memory that stores row after row, its node count and the next row's, and in a table of a row as wide.
