@@ -3,8 +3,8 @@
 use Rattle.std.proofs.Common.{◌≡◌, ℕ, arith, refl, Result, Ok, Err}
 use Rattle.arithmetic.specs.declared.Refusal.{Refusal}
 use Rattle.arithmetic.specs.declared.Refusal.TheVariants.{Job, Frequency, Steps, Reversion, Volatility, LengthOrRow, Quote, Spacing, Discount, Flow, Option, Value, Dates, Nodes, Name, Band, NoBand, SeveralBands, PairSteps}
-use Rattle.std.specs.Result.{result_unwrap_or}
-use Rattle.arithmetic.specs.Refusals.{number_of, answer_of}
+use Rattle.std.specs.Result.{IsOk, result_unwrap_or}
+use Rattle.arithmetic.specs.Refusals.{number_of, cause_of, answer_of}
 
 -- no refusal has the number of none
 pub refusal-some : (r : Refusal) → number_of r ≡ 0 → ⊥
@@ -32,3 +32,13 @@ refusal-some PairSteps e = omega arith
 pub value-or : (r : Result ℕ Refusal) → result_unwrap_or r 0 ≡ (answer_of r).value
 value-or (Ok value) = refl
 value-or (Err refusal) = refl
+
+-- an answer with number 0 is a result
+pub answer-ok : (r : Result ℕ Refusal) → (answer_of r).number ≡ 0 → IsOk r
+answer-ok (Ok value) e = refl
+answer-ok (Err refusal) e = absurd (refusal-some refusal e)
+
+-- and so is one without a cause
+pub cause-ok : {A : Type 0} (r : Result A Refusal) → cause_of r ≡ 0 → IsOk r
+cause-ok (Ok value) e = refl
+cause-ok (Err refusal) e = absurd (refusal-some refusal e)
