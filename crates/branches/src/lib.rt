@@ -146,10 +146,8 @@ fn fill_table(reversion: u64, half_width: usize, table: &mut [u64])
         × (length table.old ≡ 2 * half_width + 1) }
     ensures { table.new ≡ row (length table.old) (λ k. down_probability reversion (node_of_index half_width k)) }
 {
-    let mut index = 0;
-    while index < table.len() {
-        table[index] = down_of(reversion, half_width, index);
-        index += 1;
+    for (index, place) in table.iter_mut().enumerate() {
+        *place = down_of(reversion, half_width, index);
     }
 }
 

@@ -69,12 +69,11 @@ fn nearest_between(discount: u64, from: u64, count: u64) -> u64
 {
     let mut best = from;
     let mut least = side_miss(discount, false, from);
-    let mut k: u64 = 0;
-    while k < count {
-        k += 1;
-        let miss = side_miss(discount, false, from + k);
+    for k in 0..count {
+        let quotient = from + (k + 1);
+        let miss = side_miss(discount, false, quotient);
         if miss < least {
-            best = from + k;
+            best = quotient;
             least = miss;
         }
     }

@@ -12,12 +12,10 @@ use quotes::Point;
 fn in_order(rows: &[u64]) -> bool
     ensures { result ≡ each (length rows.now) (place_at rows.now) }
 {
-    let mut i = 0usize;
-    while i < rows.len() {
-        if rows[i] != (i + 1) as u64 {
+    for (i, row) in rows.iter().enumerate() {
+        if *row != (i + 1) as u64 {
             return false;
         }
-        i += 1;
     }
     true
 }
@@ -58,13 +56,11 @@ fn all_convert(frequency: u64, kinds: &[u8], figures: &[f64]) -> bool
     requires { length figures.now ≡ length kinds.now }
     ensures { result ≡ each (length kinds.now) (converts_at frequency kinds.now figures.now) }
 {
-    let mut i = 0usize;
-    while i < kinds.len() {
+    for i in 0..kinds.len() {
         let answer = answer_at(frequency, kinds, figures, i);
         if answer.number != 0 {
             return false;
         }
-        i += 1;
     }
     true
 }
@@ -101,11 +97,9 @@ fn store(frequency: u64, kinds: &[u8], figures: &[f64], discounts: &mut [u64])
     ensures { discounts.new ≡ place discounts.old 0
         (row (length kinds.now) (discount_at frequency kinds.now figures.now)) }
 {
-    let mut i = 0usize;
-    while i < kinds.len() {
+    for i in 0..kinds.len() {
         let answer = answer_at(frequency, kinds, figures, i);
         discounts[i] = answer.value;
-        i += 1;
     }
 }
 

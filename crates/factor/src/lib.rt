@@ -30,13 +30,11 @@ fn series_sums(y: u64) -> Sums
     let mut last = ONE;
     let mut even = ONE;
     let mut odd: u64 = 0;
-    let mut pair: u64 = 0;
-    while pair < 6 {
+    for pair in 0..6u64 {
         let next = next_term(last, y, (2 * pair + 1) * ONE);
         last = next_term(next, y, (2 * pair + 2) * ONE);
         odd += next;
         even += last;
-        pair += 1;
     }
     Sums { even, odd }
 }

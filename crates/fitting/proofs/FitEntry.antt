@@ -39,6 +39,10 @@ use Rattle.fitted_laws.specs.Entry.{quotes_of, early_cause, late_cause, fitted_n
 use Rattle.fitting.specs.inside.Plans.{SpacingKnown, Planned}
 use Rattle.fitted_laws.proofs.CauseLaws.{numbers_of}
 
+-- three answers as the clauses of an entry
+pub clauses : {A B C : Type 0} → A × (B × C) → record { number : A; discounted : B; priced : C }
+clauses w = record { number = w.0; discounted = w.1.0; priced = w.1.1 }
+
 -- causes 2 to 7 are at most 7
 chain-small : (a b c d : Bool) → cond a 2 (cond b 3 (cond c 6 (cond d 7 0))) ≤ 7
 chain-small true b c d = omega arith

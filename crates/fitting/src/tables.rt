@@ -24,12 +24,10 @@ fn fill_factors(widest: usize, spacing: u64, factors: &mut [u64])
     requires { (widest ≤ most_steps) × (widest * spacing ≤ one) × (length factors.old ≡ 2 * widest + 1) }
     ensures { factors.new ≡ row (length factors.old) (λ k. factor (node_of_index widest k) spacing) }
 {
-    let mut distance: usize = 0;
-    while distance <= widest {
+    for distance in 0..widest + 1 {
         let sides = factor::both_sides(distance as u64, spacing);
         factors[widest - distance] = sides.below;
         factors[widest + distance] = sides.above;
-        distance += 1;
     }
 }
 

@@ -144,7 +144,8 @@ pub record AcceptedVersion (version f s b : ℕ) (answer : Answer) : Type 0 wher
   pub reversion : b ≤ most_reversion
   pub value : answer.value ≡ version_spacing version f s b
 
-pub version-zero : (version f s b : ℕ) → (version_spacing_answer version f s b).number ≡ 0 → AcceptedVersion version f s b (version_spacing_answer version f s b)
+pub version-zero : (version f s b : ℕ) → (version_spacing_answer version f s b).number ≡ 0 →
+    AcceptedVersion version f s b (version_spacing_answer version f s b)
 version-zero version f s b e = by-listed (is_frequency f) refl
   where
     impossible : {X : Type 0} (cause : ℕ) → 0 < cause → version_spacing_answer version f s b ≡ refused cause → X

@@ -75,11 +75,8 @@ fn bound_of_row(reversion: u64, discounts: &[u64], row: usize) -> u64
     ensures { result ≡ state_price_error_bound (rate_tree reversion) (stored reversion discounts.now) row }
 {
     let mut reached = first_row();
-    let mut index: usize = 0;
-    while index < row {
-        let next = next_row(reversion, discounts, index, reached);
-        reached = next;
-        index += 1;
+    for index in 0..row {
+        reached = next_row(reversion, discounts, index, reached);
     }
     reached.bound
 }
@@ -97,12 +94,9 @@ fn bounds_of_rows(steps: usize, reversion: u64, discounts: &[u64]) -> [u64; MOST
 {
     let mut bounds = no_bounds();
     let mut reached = first_row();
-    let mut index: usize = 0;
-    while index < steps {
-        let next = next_row(reversion, discounts, index, reached);
-        reached = next;
-        index += 1;
-        bounds[index] = next.bound;
+    for index in 0..steps {
+        reached = next_row(reversion, discounts, index, reached);
+        bounds[index + 1] = reached.bound;
     }
     bounds
 }
