@@ -1,9 +1,9 @@
 -- Laws of refusals by their numbers.
 -- Assumes nothing.
-use Rattle.std.proofs.Common.{◌≡◌, ℕ, arith, refl, Result, Ok, Err}
+use Rattle.std.proofs.Common.{◌≡◌, ℕ, arith, refl, true, false, Result, Ok, Err}
 use Rattle.arithmetic.specs.declared.Refusal.{Refusal}
 use Rattle.arithmetic.specs.declared.Refusal.TheVariants.{Job, Frequency, Steps, Reversion, Volatility, LengthOrRow, Quote, Spacing, Discount, Flow, Option, Value, Dates, Nodes, Name, Band, NoBand, SeveralBands, PairSteps}
-use Rattle.std.specs.Result.{IsOk, result_unwrap_or}
+use Rattle.std.specs.Result.{IsOk, is_err, result_unwrap_or}
 use Rattle.arithmetic.specs.Refusals.{number_of, cause_of, answer_of}
 
 -- no refusal has the number of none
@@ -37,6 +37,15 @@ value-or (Err refusal) = refl
 pub answer-ok : (r : Result ℕ Refusal) → (answer_of r).number ≡ 0 → IsOk r
 answer-ok (Ok value) e = refl
 answer-ok (Err refusal) e = absurd (refusal-some refusal e)
+
+-- as a test that the code makes
+pub err-number : (r : Result ℕ Refusal) → true ≡ is_err r → (answer_of r).number ≡ 0 → ⊥
+err-number (Ok value) t e = let z : ◌≡◌ {A = ℕ} 0 1 = cc in omega arith
+err-number (Err refusal) t e = refusal-some refusal e
+
+pub ok-number : (r : Result ℕ Refusal) → false ≡ is_err r → (answer_of r).number ≡ 0
+ok-number (Ok value) t = refl
+ok-number (Err refusal) t = let z : ◌≡◌ {A = ℕ} 0 1 = cc in omega arith
 
 -- and so is one without a cause
 pub cause-ok : {A : Type 0} (r : Result A Refusal) → cause_of r ≡ 0 → IsOk r

@@ -1,4 +1,5 @@
-use Rattle.std.proofs.Common.{◌≡◌, ap, length, arith}
+use Rattle.std.proofs.Common.{◌≡◌, ap, ◌∙◌, length, arith}
+use Rattle.arithmetic.proofs.RefusalLaws.{value-or}
 use Rattle.arithmetic.specs.declared.Answer.{Answer}
 use Rattle.arithmetic.proofs.RowLaws.{filled-start, filled_next}
 use Rattle.arithmetic.proofs.PlaceLaws.{filled-place}
@@ -9,7 +10,8 @@ loop-i-init c = filled-start _ _
 
 pub loop-i-preserved : goal.loop-i-preserved
 loop-i-preserved c =
-    filled_next c.loop-i.invariant (omega arith) (ap (λ (r : Answer). r.value) c.answer_at-answer.ensures)
+    let e = ap (λ (r : Answer). r.value) c.answer_at.ensures in
+    filled_next c.loop-i.invariant (omega arith) (c.unwrap_or.ensures ∙ value-or c.answer_at.result ∙ e)
 
 pub returns : goal.returns
 returns c =
