@@ -5,19 +5,18 @@ ghost use Rattle.std.specs.Prelude.{◌≡◌, true, false, ◌+◌, ◌-◌, �
 ghost use Rattle.arithmetic.specs.Rounding.{one};
 ghost use Rattle.limits.specs.Limits.{most_discount};
 ghost use Rattle.continuous.specs.Continuous.{side_discount};
+ghost use Rattle.step_rate.specs.StepRate.{rate_of};
 ghost use Rattle.continuous_rate.specs.Least.{first_least};
 ghost use Rattle.continuous_rate.specs.ContinuousRate.{continuous_rate_answer};
 ghost use Rattle.continuous_rate.specs.inside.Search.{side_miss, window_miss, before, reach_of, Passes};
 
-use arithmetic::ONE;
-use step_rate::Rate;
+use arithmetic::{ONE, Refusal};
 
 fn side_discount(quotient: u64, below: bool) -> u64
     requires { quotient ≤ one }
     ensures { result ≡ side_discount quotient below }
 {
-    let answer = continuous::discount_of_quotient(quotient, below);
-    answer.value
+    continuous::discount_of_quotient(quotient, below).unwrap()
 }
 
 // How far the discount of a quotient is from the given one.
@@ -134,24 +133,15 @@ fn nearest_below(discount: u64) -> u64
     place
 }
 
-// The continuous rate of a discount. Refusal 9: the discount is 0 or above 1.1.
-pub fn of_discount(discount: u64) -> Rate
-    ensures { result ≡ continuous_rate_answer discount }
+// The signed continuous rate of a discount, in billionths; refused where the discount is 0 or above 1.1.
+pub fn of_discount(discount: u64) -> Result<i64, Refusal>
+    ensures { rate_of result ≡ continuous_rate_answer discount }
 {
     if !limits::is_discount(discount) {
-        return Rate {
-            number: 9,
-            value: 0,
-        };
+        return Err(Refusal::Discount);
     }
     if discount > ONE {
-        return Rate {
-            number: 0,
-            value: -((4 * nearest_below(discount)) as i64),
-        };
+        return Ok(-((4 * nearest_below(discount)) as i64));
     }
-    Rate {
-        number: 0,
-        value: (4 * nearest_above(discount)) as i64,
-    }
+    Ok((4 * nearest_above(discount)) as i64)
 }

@@ -1,13 +1,14 @@
-use mathlib.Core.Path.{◌≡◌, sym, ◌∙◌}
+use mathlib.Core.Path.{◌≡◌, refl, sym, ◌∙◌}
+use Rattle.std.proofs.lemmas.Result.{err_from_is_err_and}
 use mathlib.Core.Bool.{true}
 use Prim.Native.Nat.{ℕ, ◌*◌, ◌≤◌}
-use native.Mathlib.Nat.{mul-le-mul, div-le_self, lt_of_le_of_lt}
+use native.Mathlib.Nat.{mul-le-mul}
 use native.Mathlib.Omega.{arith}
 use Rattle.arithmetic.specs.Frequency.{is_frequency}
 use Rattle.arithmetic.proofs.FrequencyLaws.{listed_small}
 use Rattle.arithmetic.proofs.Implied.{implied}
 use Rattle.spacing.proofs.SpacingLaws.{cube-positive}
-use Rattle.spacing.proofs.VersionLaws.{answer-unlisted, answer-reverting, answer-volatile, ratio-refused, ratio-fits, ratio-found}
+use Rattle.spacing.proofs.VersionLaws.{answer-unlisted, answer-reverting, answer-volatile, ratio-kept, ratio-fits, ratio-found}
 use Rattle.spacing.proofs.version_spacing.Goals as goal
 
 square-fits : {s : ℕ} → s ≤ 50000 → s * s ≤ 2500000000
@@ -30,10 +31,11 @@ pub returns-then-volatility-gt50000 : goal.returns-then-volatility-gt50000
 returns-then-volatility-gt50000 c =
     sym (answer-volatile _ _ _ _ (sym c.is_frequency.ensures ∙ c.if-not-is_frequency.false) (omega arith) c.if-volatility-gt50000.true)
 
-pub returns-then-ratio-ne0 : goal.returns-then-ratio-ne0
-returns-then-ratio-ne0 c =
-    sym (ratio-refused implied (sym c.is_frequency.ensures ∙ c.if-not-is_frequency.false) (omega arith) (omega arith)
-    c.variance_ratio-ratio.ensures c.if-ratio-ne0.true)
+pub returns-in_err-ratio : goal.returns-in_err-ratio
+returns-in_err-ratio c =
+    let p = err_from_is_err_and c.from_residual.result c.from_residual.ensures.1 in
+    rw (p.1, p.2)
+    (ratio-kept implied _ (sym c.is_frequency.ensures ∙ c.if-not-is_frequency.false) (omega arith) (omega arith) c.in_err-ratio.ensures)
 
 pub overflow_mul-variance : goal.overflow_mul-variance
 overflow_mul-variance c = omega (arith, square-fits c.if-volatility-gt50000.false)
@@ -46,7 +48,7 @@ overflow_mul-variance-3 c =
     omega (
       arith,
       ratio-fits {s = c.args.volatility} implied (sym c.is_frequency.ensures ∙ c.if-not-is_frequency.false) (omega arith) (omega arith)
-          c.variance_ratio-ratio.ensures c.if-ratio-ne0.false,
+          c.in_ok-ratio.ensures refl,
     )
 
 pub overflow_mul-cube : goal.overflow_mul-cube
@@ -58,15 +60,7 @@ overflow_mul-cube-2 c = omega (arith, cube-listed _ (sym c.is_frequency.ensures 
 pub nonzero_div-variance-2 : goal.nonzero_div-variance-2
 nonzero_div-variance-2 c = cube-positive (listed_small _ (sym c.is_frequency.ensures ∙ c.if-not-is_frequency.false)).0
 
-pub square_root-requires : goal.square_root-requires
-square_root-requires c =
-    lt_of_le_of_lt (div-le_self _ _) (omega (
-      arith,
-      ratio-fits {s = c.args.volatility} implied (sym c.is_frequency.ensures ∙ c.if-not-is_frequency.false) (omega arith) (omega arith)
-          c.variance_ratio-ratio.ensures c.if-ratio-ne0.false,
-    ))
-
 pub returns : goal.returns
 returns c =
-    sym (ratio-found implied (sym c.is_frequency.ensures ∙ c.if-not-is_frequency.false) (omega arith) (omega arith) c.variance_ratio-ratio.ensures
-    c.if-ratio-ne0.false _ c.square_root.ensures.0 c.square_root.ensures.1)
+    sym (ratio-found implied (sym c.is_frequency.ensures ∙ c.if-not-is_frequency.false) (omega arith) (omega arith) c.in_ok-ratio.ensures
+    refl _ c.isqrt.ensures.square_le c.isqrt.ensures.next_square_gt)
