@@ -94,9 +94,8 @@ fn stop_at(
         covering: 0,
         next: END,
     };
-    let mut k = 0usize;
-    while k < firsts.len() {
-        let more = add_band(
+    for k in 0..firsts.len() {
+        stop = add_band(
             stop,
             firsts[k],
             lasts[k],
@@ -105,8 +104,6 @@ fn stop_at(
             row,
             price,
         );
-        stop = more;
-        k += 1;
     }
     stop
 }
@@ -134,15 +131,13 @@ fn failing_row(firsts: &[u64], lasts: &[u64], lowests: &[u64], highests: &[u64])
     requires { Parallel firsts.now lasts.now lowests.now highests.now }
     ensures { result ≡ failing_row (bands_of firsts.now lasts.now lowests.now highests.now) }
 {
-    let mut row = 1u64;
-    while row <= LAST_ROW {
+    for row in 1..LAST_ROW + 1 {
         let price = failing_price(firsts, lasts, lowests, highests, row);
         if price <= limits::VALUE_LIMIT {
             return row;
         }
-        row += 1;
     }
-    row
+    LAST_ROW + 1
 }
 
 // The verdict on the pairs: 17 or 18 with the first failing pair, or zeros.
@@ -215,14 +210,12 @@ fn first_bad(
     ensures { result ≡ bad_index (bands_of firsts.now lasts.now lowests.now highests.now)
         (values haircuts.now) }
 {
-    let mut k = 0usize;
-    while k < firsts.len() {
+    for k in 0..firsts.len() {
         if !is_sound(firsts[k], lasts[k], lowests[k], highests[k], haircuts[k]) {
             return k;
         }
-        k += 1;
     }
-    k
+    firsts.len()
 }
 
 // Whether the five slices have one length.

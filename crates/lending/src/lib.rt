@@ -48,14 +48,12 @@ fn find_band(
     requires { Parallel firsts.now lasts.now lowests.now highests.now }
     ensures { result ≡ band_index (bands_of firsts.now lasts.now lowests.now highests.now) row price }
 {
-    let mut k = 0usize;
-    while k < firsts.len() {
+    for k in 0..firsts.len() {
         if is_within(firsts[k], lasts[k], lowests[k], highests[k], row, price) {
             return k;
         }
-        k += 1;
     }
-    k
+    firsts.len()
 }
 
 // A refusal that no table decides.

@@ -33,13 +33,10 @@ fn least_of(xs: &[u64]) -> u64
     ensures { result ≡ least (length xs.now) (values xs.now) }
 {
     let mut best: u64 = limits::MOST_DISCOUNT;
-    let mut k: usize = 0;
-    while k < xs.len() {
-        let x = xs[k];
-        if x < best {
-            best = x;
+    for x in xs {
+        if *x < best {
+            best = *x;
         }
-        k += 1;
     }
     best
 }
@@ -83,12 +80,10 @@ fn combined_cause(
     requires { AcceptedTrees steps rate_reversion spread_reversion rates.now spreads.now }
     ensures { result ≡ combined_cause steps rate_reversion spread_reversion rates.now spreads.now }
 {
-    let mut row: usize = 0;
-    while row < steps {
+    for row in 0..steps {
         if !is_discounted(steps, rate_reversion, spread_reversion, row, rates, spreads) {
             return 9;
         }
-        row += 1;
     }
     0
 }

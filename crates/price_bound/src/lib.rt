@@ -54,14 +54,11 @@ fn range_of(discounts: &[u64]) -> RowRange
     ensures greatest { result.within ≡ true → result.greatest ≡ greatest (length discounts.now) (values discounts.now) }
 {
     let mut top: u64 = 0;
-    let mut k: usize = 0;
-    while k < discounts.len() {
-        let discount = discounts[k];
-        if discount < 1 {
+    for discount in discounts {
+        if *discount < 1 {
             return refused_row();
         }
-        top = arithmetic::larger(top, discount);
-        k += 1;
+        top = arithmetic::larger(top, *discount);
     }
     RowRange {
         within: top <= limits::MOST_DISCOUNT,
@@ -104,14 +101,12 @@ fn tree_range(steps: usize, reversion: u64, discounts: &[u64]) -> TreeRange
     ensures greatest { result.within ≡ true → result.greatest ≡ greatest_discounts steps reversion discounts.now }
 {
     let mut rows = no_rows();
-    let mut row: usize = 0;
-    while row < steps {
+    for row in 0..steps {
         let range = row_range(steps, reversion, row, discounts);
         if !range.within {
             return refused_tree();
         }
         rows[row] = range.greatest;
-        row += 1;
     }
     TreeRange {
         within: true,
@@ -125,9 +120,7 @@ fn error_bound(steps: usize, rows: [u64; MOST_STEPS]) -> u64
     ensures { result ≡ error_bound roll_loss (values rows) steps 0 }
 {
     let mut bound: u64 = 0;
-    let mut row = steps;
-    while 0 < row {
-        row -= 1;
+    for row in (0..steps).rev() {
         bound = (rows[row] * bound + (ONE - 1)) / ONE + 2;
     }
     bound

@@ -184,6 +184,12 @@ pub record Found (n b : ℕ) (discounts : List ℕ) (i : ℕ) (payoffs : List �
   pub of-payoffs : p ≡ payoffs_cause (length payoffs) nodes.value g
   pub lowest : x ≡ lowest_cause bound.number p
 
+pub found :
+    {n b : ℕ} {discounts : List ℕ} {i : ℕ} {payoffs : List ℕ} {bound nodes : Answer} {g p x : ℕ} →
+    bound ≡ state_price_error_bound_answer n b discounts i → nodes ≡ node_count_answer b i → g ≡ greatest_of payoffs →
+    p ≡ payoffs_cause (length payoffs) nodes.value g → x ≡ lowest_cause bound.number p → Found n b discounts i payoffs bound nodes g p x
+found e₁ e₂ e₃ e₄ e₅ = record { row-bound = e₁; row-nodes = e₂; highest = e₃; of-payoffs = e₄; lowest = e₅ }
+
 module _ {n : ℕ} (b : ℕ) (discounts : List ℕ) {i : ℕ} (payoffs : List ℕ) where
   module _ {bound nodes : Answer} {g p x : ℕ} (f : Found n b discounts i payoffs bound nodes g p x) where
     row_number_lem : bound.number ≡ bound_cause n b discounts i

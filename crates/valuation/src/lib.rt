@@ -21,13 +21,11 @@ fn sums_above_limit(prices: &[u64]) -> bool
     ensures { result ≡ ltb sum_limit (sum_of prices.now) }
 {
     let mut total: u64 = 0;
-    let mut index = 0;
-    while index < prices.len() {
-        if 2_000_000_100 - total < prices[index] {
+    for price in prices {
+        if 2_000_000_100 - total < *price {
             return true;
         }
-        total += prices[index];
-        index += 1;
+        total += *price;
     }
     false
 }
@@ -38,10 +36,8 @@ fn sum_of_products(prices: &[u64], payoffs: &[u64]) -> u64
     ensures { result ≡ sum_of_products prices.now payoffs.now }
 {
     let mut total: u64 = 0;
-    let mut index = 0;
-    while index < prices.len() {
-        total += prices[index] * payoffs[index];
-        index += 1;
+    for (index, price) in prices.iter().enumerate() {
+        total += *price * payoffs[index];
     }
     total
 }

@@ -1,5 +1,5 @@
-use mathlib.Core.Path.{◌≡◌, ◌∙◌}
-use Prim.Native.Nat.{◌+◌, ◌-◌}
+use mathlib.Core.Path.{◌≡◌}
+use Prim.Native.Nat.{◌+◌}
 use native.Mathlib.Omega.{arith}
 use Rattle.limits.specs.Limits.{most_steps}
 use Rattle.bands.specs.Bands.{failing_row}
@@ -25,4 +25,4 @@ pub returns : goal.returns
 unfolding failing_row
 returns c =
     let end : c.loop-row.row ≡ most_steps + 1 = omega (arith, c.loop-row.invariant.most) in
-    end ∙ searched-none (rw end at c.loop-row.invariant)
+    searched-none (rw end at c.loop-row.invariant)

@@ -1,4 +1,4 @@
-use Prim.Native.Nat.{◌+◌, ◌-◌}
+use Rattle.std.proofs.Common.{◌+◌}
 use Rattle.limits.specs.Limits.{most_steps}
 use Rattle.bands.specs.Bands.{bands_of, fails}
 use Rattle.bands.proofs.FirstLaws.{Searched}
@@ -6,6 +6,3 @@ use Rattle.bands.proofs.failing_row.Given as goal
 
 abbrev pub invariant-loop-row : goal.invariant-loop-row
 invariant-loop-row l = Searched (fails (bands_of l.firsts l.lasts l.lowests l.highests)) 1 (most_steps + 1) l.row
-
-abbrev pub decreases-loop-row : goal.decreases-loop-row
-decreases-loop-row l = most_steps + 1 - l.row
