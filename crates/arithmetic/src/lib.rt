@@ -65,6 +65,16 @@ impl Refusal {
     }
 }
 
+// The number of what was refused, or 0.
+pub fn cause(outcome: Result<(), Refusal>) -> u64
+    ensures { result ≡ cause_of outcome }
+{
+    match outcome {
+        Ok(()) => 0,
+        Err(refusal) => refusal.number(),
+    }
+}
+
 // The refusal that comes first, the lower number's, of two tests.
 pub fn lowest_refusal(a: Result<(), Refusal>, b: Result<(), Refusal>) -> Result<(), Refusal>
     ensures { cause_of result ≡ lowest_cause (cause_of a) (cause_of b) }
