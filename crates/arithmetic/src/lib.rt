@@ -76,11 +76,17 @@ pub fn cause(outcome: Result<(), Refusal>) -> u64
 }
 
 // The refusal that comes first, the lower number's, of two tests.
-pub fn lowest_refusal(a: Result<(), Refusal>, b: Result<(), Refusal>) -> Result<(), Refusal>
+pub fn lowest_refusal<A: Copy, B: Copy>(
+    a: Result<A, Refusal>,
+    b: Result<B, Refusal>,
+) -> Result<(), Refusal>
     ensures { cause_of result ≡ lowest_cause (cause_of a) (cause_of b) }
 {
     let Err(first) = a else {
-        return b;
+        return match b {
+            Ok(_) => Ok(()),
+            Err(second) => Err(second),
+        };
     };
     let Err(second) = b else {
         return Err(first);
