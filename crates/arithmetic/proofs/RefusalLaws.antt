@@ -33,6 +33,11 @@ pub value-or : (r : Result ℕ Refusal) → result_unwrap_or r 0 ≡ (answer_of 
 value-or (Ok value) = refl
 value-or (Err refusal) = refl
 
+-- the number is the cause
+pub number-cause : (r : Result ℕ Refusal) → (answer_of r).number ≡ cause_of r
+number-cause (Ok value) = refl
+number-cause (Err refusal) = refl
+
 -- an answer with number 0 is a result
 pub answer-ok : (r : Result ℕ Refusal) → (answer_of r).number ≡ 0 → IsOk r
 answer-ok (Ok value) e = refl

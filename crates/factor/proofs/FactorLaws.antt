@@ -96,6 +96,9 @@ pub sides-accepted :
 unfolding sides_answer
 sides-accepted d h l = rw (le-ltb one (d * h) l)
 
+pub sides-ok : (d h : ℕ) (r : Result Sides Refusal) → r ≡ sides_answer d h → d * h ≤ one → IsOk r
+sides-ok d h r e l = rw (e, sides-accepted d h l)
+
 module _ (d h : ℕ) where
   -- the refusal of both is that of each
   pub refused-of-both : (below : Bool) (r : Refusal) → Err r ≡ sides_answer d h → refused (number_of r) ≡ side_answer d below h
