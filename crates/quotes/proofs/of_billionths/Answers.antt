@@ -35,15 +35,19 @@ size c = divisor-size c.args.frequency c.args.row c.args.rate c.requires.0 c.req
 pub returns-then-divisor-le0 : goal.returns-then-divisor-le0
 unfolding rate_discount
 returns-then-divisor-le0 c =
-    let s = c.before.before in
+    let s = (goal.at.returns-then-divisor-le0 c).Start in
     c.refusal.ensures
     ∙ sym (ranged-none _ (quotient-none (one * one * s.args.frequency) (divisor s) (rw (back s) at c.if-divisor-le0.true)))
 
-positive : (c : Else-divisor-le0) → le_z (divisor c.before) (pos 0) ≡ false
-positive c = rw (back c.before) at c.if-divisor-le0.false
+positive : (c : Else-divisor-le0) → le_z (divisor (goal.at.Else-divisor-le0 c).Start) (pos 0) ≡ false
+positive c = rw (back (goal.at.Else-divisor-le0 c).Start) at c.if-divisor-le0.false
 
 pub overflow_cast-divisor-3 : goal.overflow_cast-divisor-3
-overflow_cast-divisor-3 c = rw (back (goal.at.overflow_cast-divisor-3 c).Start) ((quotient-some 0 (divisor (goal.at.overflow_cast-divisor-3 c).Start) (positive c)).0, record { fits = omega (arith, size (goal.at.overflow_cast-divisor-3 c).Start) })
+overflow_cast-divisor-3 c =
+    rw (back (goal.at.overflow_cast-divisor-3 c).Start) (
+      (quotient-some 0 (divisor (goal.at.overflow_cast-divisor-3 c).Start) (positive c)).0,
+      record { fits = omega (arith, size (goal.at.overflow_cast-divisor-3 c).Start) },
+    )
 
 pub nonzero_div-frequency : goal.nonzero_div-frequency
 nonzero_div-frequency c = rw (back (goal.at.nonzero_div-frequency c).Start) (quotient-some 0 (divisor (goal.at.nonzero_div-frequency c).Start) (positive c)).1
@@ -51,6 +55,6 @@ nonzero_div-frequency c = rw (back (goal.at.nonzero_div-frequency c).Start) (quo
 pub returns : goal.returns
 unfolding rate_discount
 returns c =
-    let s = c.before.before in
+    let s = (goal.at.returns c).Start in
     c.ranged.ensures
     ∙ ap ranged_answer (rw (back s) (sym (quotient-some (one * one * s.args.frequency) (divisor s) (positive (goal.at.returns c).Else-divisor-le0)).2))

@@ -41,5 +41,6 @@ overflow_cast-value c =
 pub returns : goal.returns
 returns c =
     c.ranged.ensures
-    ∙ ap ranged_answer (rw (back (goal.at.returns c).Else-value-lt0) (sym (factor-whole (value (goal.at.returns c).Else-value-lt0) (whole (goal.at.returns c).Else-value-lt0)).1))
+    ∙ ap ranged_answer (rw (back (goal.at.returns c).Else-value-lt0)
+    (sym (factor-whole (value (goal.at.returns c).Else-value-lt0) (whole (goal.at.returns c).Else-value-lt0)).1))
     ∙ sym (figure-accepted c.args.figure factor_discount c.billionths-factor.result c.billionths-factor.ensures c.if-factor-ne0.false)

@@ -7,9 +7,8 @@ use Rattle.quotes.proofs.of_yield.Goals as goal
 
 pub returns-then-rate-ne0 : goal.returns-then-rate-ne0
 returns-then-rate-ne0 c =
-    let a = c.args in
     c.refusal.ensures
-    ∙ sym (figure-refused a.figure (yield_discount a.frequency a.row) c.billionths-rate.result c.billionths-rate.ensures c.if-rate-ne0.true)
+    ∙ sym (figure-refused c.args.figure (yield_discount c.args.frequency c.args.row) c.billionths-rate.result c.billionths-rate.ensures c.if-rate-ne0.true)
 
 pub of_yearly-requires : goal.of_yearly-requires
 of_yearly-requires c =
@@ -19,7 +18,6 @@ of_yearly-requires c =
 
 pub returns : goal.returns
 returns c =
-    let a = c.args in
     c.of_yearly.ensures
-    ∙ ap (λ (z : ℤ). ranged_answer (yield_discount a.frequency a.row z)) (value-back a.figure c.billionths-rate.result c.billionths-rate.ensures)
-    ∙ sym (figure-accepted a.figure (yield_discount a.frequency a.row) c.billionths-rate.result c.billionths-rate.ensures c.if-rate-ne0.false)
+    ∙ ap (λ (z : ℤ). ranged_answer (yield_discount c.args.frequency c.args.row z)) (value-back c.args.figure c.billionths-rate.result c.billionths-rate.ensures)
+    ∙ sym (figure-accepted c.args.figure (yield_discount c.args.frequency c.args.row) c.billionths-rate.result c.billionths-rate.ensures c.if-rate-ne0.false)

@@ -6,7 +6,8 @@ pub returns-then-discount-lt100000000 : goal.returns-then-discount-lt100000000
 returns-then-discount-lt100000000 c = c.refusal.ensures ∙ sym (ranged-low c.args.discount c.if-discount-lt100000000.true)
 
 pub returns-then-discount-gt2000000000 : goal.returns-then-discount-gt2000000000
-returns-then-discount-gt2000000000 c = c.refusal-then-discount-gt2000000000.ensures ∙ sym (ranged-high c.args.discount c.if-discount-lt100000000.false c.if-discount-gt2000000000.true)
+returns-then-discount-gt2000000000 c =
+    c.refusal-then-discount-gt2000000000.ensures ∙ sym (ranged-high c.args.discount c.if-discount-lt100000000.false c.if-discount-gt2000000000.true)
 
 pub returns : goal.returns
 returns c = sym (ranged-known c.args.discount c.if-discount-lt100000000.false c.if-discount-gt2000000000.false)
