@@ -13,13 +13,13 @@ accepted c = tree-accepted _ _ _ _ c.discounts_needed-discounts_needed.ensures c
 
 pub returns-then-discounts-discounts_needed : goal.returns-then-discounts-discounts_needed
 returns-then-discounts-discounts_needed c =
-    let e = c.before.before in
-    laws.short-discounts implied (accepted (goal.at.returns-then-discounts-discounts_needed c).Else-discounts_needed-ne0) _ (tree-value _ _ _ _ e.discounts_needed-discounts_needed.ensures (accepted (goal.at.returns-then-discounts-discounts_needed c).Else-discounts_needed-ne0)) c.if-discounts-discounts_needed.true
+    laws.short-discounts implied (accepted (goal.at.returns-then-discounts-discounts_needed c).Else-discounts_needed-ne0) _
+    (tree-value _ _ _ _ c.discounts_needed-discounts_needed.ensures
+    (accepted (goal.at.returns-then-discounts-discounts_needed c).Else-discounts_needed-ne0)) c.if-discounts-discounts_needed.true
 
 pub returns : goal.returns
 returns c =
-    let e = c.before.before.before.before in
     laws.long-discounts implied (accepted (goal.at.returns c).Else-discounts_needed-ne0) _ _
-    (tree-value _ _ _ _ e.discounts_needed-discounts_needed.ensures (accepted (goal.at.returns c).Else-discounts_needed-ne0))
+    (tree-value _ _ _ _ c.discounts_needed-discounts_needed.ensures (accepted (goal.at.returns c).Else-discounts_needed-ne0))
     (tree-value _ _ _ _ c.state_prices_needed-state_prices_needed.ensures (accepted (goal.at.returns c).Else-discounts_needed-ne0))
     c.if-discounts-discounts_needed.false

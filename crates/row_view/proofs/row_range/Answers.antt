@@ -19,22 +19,19 @@ returns-then-not-stores_row c =
 
 held :
     (c : Else-not-holds_tree) →
-    let a = c.args in
-    holds_tree a.steps a.reversion a.discounts.now a.state_prices.now ≡ true
+    holds_tree c.args.steps c.args.reversion c.args.discounts.now c.args.state_prices.now ≡ true
 held c = sym c.holds_tree.ensures ∙ c.if-not-holds_tree.false
 
 stored :
     (c : Else-not-stores_row) →
-    let a = c.args in
-    stores_row a.kind a.steps a.row ≡ true
+    stores_row c.args.kind c.args.steps c.args.row ≡ true
 stored c = sym c.stores_row.ensures ∙ c.if-not-stores_row.false
 
 pub returns : goal.returns
 returns c =
-    let a = c.args in
     let h = held (goal.at.returns c).Else-not-holds_tree in
     let s = stored (goal.at.returns c).Else-not-stores_row in
-    let room = laws.row_room a.discounts a.state_prices a.kind a.steps a.reversion a.row (laws.holding _ _ _ _ h) s in
+    let room = laws.row_room c.args.discounts c.args.state_prices c.args.kind c.args.steps c.args.reversion c.args.row (laws.holding _ _ _ _ h) s in
     laws.shown-range implied _ _ (laws.is-stored implied h s)
     (row-value _ _ _ _ c.row_start-first.ensures room.0 room.1)
     (row-value _ _ _ _ c.node_count-nodes.ensures room.0 room.1)
