@@ -21,8 +21,8 @@ pub(crate) fn normaliser_of(state_prices: &[u64], factors: &[u64]) -> u64
     ensures { result ≡ normaliser (length state_prices.now) (values state_prices.now) (values factors.now) }
 {
     let mut total: u64 = 0;
-    for (k, price) in state_prices.iter().enumerate() {
-        total += *price * factors[k];
+    for (price, factor) in state_prices.iter().zip(factors) {
+        total += *price * *factor;
     }
     total / ONE
 }

@@ -36,8 +36,8 @@ fn sum_of_products(prices: &[u64], payoffs: &[u64]) -> u64
     ensures { result ≡ sum_of_products prices.now payoffs.now }
 {
     let mut total: u64 = 0;
-    for (index, price) in prices.iter().enumerate() {
-        total += *price * payoffs[index];
+    for (price, payoff) in prices.iter().zip(payoffs) {
+        total += *price * *payoff;
     }
     total
 }

@@ -1,5 +1,7 @@
+use Rattle.std.proofs.Common.{length}
 use Rattle.valuation.proofs.EntryLaws as laws
 use Rattle.valuation.proofs.sum_of_products.Given as goal
 
-abbrev pub invariant-loop-index : goal.invariant-loop-index
-invariant-loop-index l = laws.Multiplied l.prices l.payoffs l.index l.total
+-- as many turns as pairs were yielded
+abbrev pub invariant-loop-price : goal.invariant-loop-price
+invariant-loop-price l = laws.Multiplied l.prices l.payoffs (length l.yielded) l.total

@@ -1,6 +1,7 @@
-use Rattle.std.proofs.Common.{◌≡◌}
+use Rattle.std.proofs.Common.{◌≡◌, length}
 use Rattle.fitting.proofs.StepRows as laws
 use Rattle.fitting.proofs.step.normaliser_of.Given as goal
 
-abbrev pub invariant-loop-k : goal.invariant-loop-k
-invariant-loop-k l = l.total ≡ laws.weighed l.state_prices l.factors l.k
+-- as many turns as pairs were yielded
+abbrev pub invariant-loop-price : goal.invariant-loop-price
+invariant-loop-price l = l.total ≡ laws.weighed l.state_prices l.factors (length l.yielded)
