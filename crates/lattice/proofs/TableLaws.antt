@@ -70,8 +70,7 @@ module _ (b w : ℕ) (table : List ℕ) where
         unfolding table_number table_of is_half_width
         table-length n = rw (le-ltb 6000 b hb, fit, ne_eqb (length table) (2 * w + 1) n) (refl, refl)
 
-        pub table_filled : (after : List ℕ) → length table ≡ 2 * w + 1 → after ≡ row (length table) (λ k. down_probability b (node_of_index w k)) →
-            Answers 0 after
+        pub table_filled : (after : List ℕ) → length table ≡ 2 * w + 1 → after ≡ row (length table) (λ k. down_probability b (node_of_index w k)) → Answers 0 after
         unfolding table_number table_of is_half_width
         table_filled after e f = rw (le-ltb 6000 b hb, fit, eq-eqb (length table) (2 * w + 1) e) (refl, rw e at f)
 

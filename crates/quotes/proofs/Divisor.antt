@@ -54,6 +54,5 @@ module _ (f t : ℕ) (r : ℤ) (hf : f ≤ 12) (ht : t ≤ 60) (hr : nat_abs r �
       (fits-by-size (pos (f * 1000000000) +ℤ pos t *ℤ r) (omega (arith, divisor-size)))
 
   -- what is read back from the bits
-  pub divisor-back : to_z w64 (of_z w64 (to_z w64 (f * 1000000000) +ℤ to_z w64 (of_z w64 (to_z w64 t *ℤ to_z w64 (of_z w64 r)))))
-      ≡ pos (f * 1000000000) +ℤ pos t *ℤ r
+  pub divisor-back : to_z w64 (of_z w64 (to_z w64 (f * 1000000000) +ℤ to_z w64 (of_z w64 (to_z w64 t *ℤ to_z w64 (of_z w64 r))))) ≡ pos (f * 1000000000) +ℤ pos t *ℤ r
   divisor-back = to_z-of_z divisor-fits ∙ divisor-coded

@@ -21,19 +21,7 @@ use Rattle.lattice.proofs.Sizes.{row_ends}
 use Rattle.row_view.specs.declared.RowKind.{RowKind}
 use Rattle.row_view.specs.declared.RowKind.TheVariants.{Discounts, StatePrices}
 use Rattle.row_view.specs.declared.RowRange.{RowRange}
-use Rattle.row_view.specs.RowView.{
-  is_tree,
-  holds_tree,
-  stores_row,
-  memory_of,
-  is_shown,
-  view_start,
-  view_count,
-  range_of_row,
-  no_range,
-  range_by_number,
-  PartOf,
-}
+use Rattle.row_view.specs.RowView.{is_tree, holds_tree, stores_row, memory_of, is_shown, view_start, view_count, range_of_row, no_range, range_by_number, PartOf}
 use Rattle.lattice.proofs.TreeEntries.{by-tree}
 
 -- ---- whether both memories hold the tree, by the tests that code makes

@@ -18,7 +18,7 @@ pub unwrap-series-requires : goal.unwrap-series-requires
 unwrap-series-requires c = side-ok _ _ _ _ c.factor.ensures (omega arith)
 
 pub fourth_power-requires : goal.fourth_power-requires
-fourth_power-requires c = omega (arith, found c, (series-bounds c.args.quotient c.args.below c.if-quotient-gt-ONE.false).1)
+fourth_power-requires c = let s = c.args in omega (arith, found c, (series-bounds s.quotient s.below c.if-quotient-gt-ONE.false).1)
 
 pub returns : goal.returns
-returns c = quotient-found _ _ _ _ (series-of-node _ _ _ c.factor-series.ensures (omega arith)) c.fourth_power.ensures c.if-quotient-gt-ONE.false
+returns c = quotient-found _ _ _ _ (found c.before) c.fourth_power.ensures c.if-quotient-gt-ONE.false

@@ -9,7 +9,8 @@ use Rattle.figure.proofs.scaled.Goals as goal
 
 pub returns-then-shift-gt84 : goal.returns-then-shift-gt84
 returns-then-shift-gt84 c =
-    sym (nearest_zero (c.args.significand * one) (2 ^ c.args.shift) (omega (arith, pow_mono {i = 85} {j = c.args.shift} (omega arith))))
+    let a = c.before.args in
+    sym (nearest_zero (a.significand * one) (2 ^ a.shift) (omega (arith, pow_mono {i = 85} {j = a.shift} (omega arith))))
 
 pub overflow_mul-whole : goal.overflow_mul-whole
 overflow_mul-whole c = rw (table-one _ c.power_of_ten-one.ensures) (omega arith)
@@ -22,22 +23,22 @@ overflow_add-whole c = rw (table-one _ c.power_of_ten-one.ensures) (omega arith)
 
 pub overflow_add-result : goal.overflow_add-result
 overflow_add-result c =
-    rw (table-one _ c.power_of_ten-one.ensures, bit_up (c.args.shift - 31) (omega arith))
-    (omega (arith, pow_mono {i = c.args.shift - 31} {j = 53} (omega arith)))
+    rw (table-one _ c.power_of_ten-one.ensures, bit_up (c.before.before.args.shift - 31) (omega arith))
+    (omega (arith, pow_mono {i = c.before.before.args.shift - 31} {j = 53} (omega arith)))
 
 pub overflow_mul-result : goal.overflow_mul-result
 overflow_mul-result c =
-    rw (bit_up (c.args.shift - 31) (omega arith))
-    (omega (arith, pow_mono {i = c.args.shift - 31} {j = 53} (omega arith)))
+    rw (bit_up (c.before.before.args.shift - 31) (omega arith))
+    (omega (arith, pow_mono {i = c.before.before.args.shift - 31} {j = 53} (omega arith)))
 
 pub nonzero_div-result : goal.nonzero_div-result
 nonzero_div-result c =
-    rw (bit_up (c.args.shift - 31) (omega arith)) (omega (arith, pow_pos (c.args.shift - 31)))
+    rw (bit_up (c.before.before.args.shift - 31) (omega arith)) (omega (arith, pow_pos (c.before.before.args.shift - 31)))
 
 pub returns : goal.returns
 returns c =
-    scaled-is c.args.significand c.power_of_ten-one.result c.args.shift
-    ((1 * 2 ^ (c.args.shift - 31)) % 2 ^ 64)
+    scaled-is c.before.before.args.significand c.power_of_ten-one.result c.before.before.args.shift
+    ((1 * 2 ^ (c.before.before.args.shift - 31)) % 2 ^ 64)
     (table-one c.power_of_ten-one.result c.power_of_ten-one.ensures)
-    (bit_up (c.args.shift - 31) (omega arith))
+    (bit_up (c.before.before.args.shift - 31) (omega arith))
     (omega arith)

@@ -6,7 +6,7 @@ pub returns-then-reversion-gt-MOST_REVERSION : goal.returns-then-reversion-gt-MO
 returns-then-reversion-gt-MOST_REVERSION c = sym (entry.row-steep _ _ _ c.if-reversion-gt-MOST_REVERSION.true)
 
 pub returns-then-row-gt-MOST_STEPS : goal.returns-then-row-gt-MOST_STEPS
-returns-then-row-gt-MOST_STEPS c = sym (entry.row-past _ _ _ c.if-reversion-gt-MOST_REVERSION.false c.if-row-gt-MOST_STEPS.true)
+returns-then-row-gt-MOST_STEPS c = sym (entry.row-past _ _ _ c.before.if-reversion-gt-MOST_REVERSION.false c.if-row-gt-MOST_STEPS.true)
 
 pub returns : goal.returns
-returns c = sym (entry.row-found _ _ _ c.if-reversion-gt-MOST_REVERSION.false c.if-row-gt-MOST_STEPS.false)
+returns c = sym (entry.row-found _ _ _ c.before.if-reversion-gt-MOST_REVERSION.false c.if-row-gt-MOST_STEPS.false)

@@ -7,5 +7,5 @@ use Rattle.lattice.proofs.discounts_needed.Goals as goal
 pub returns : goal.returns
 unfolding discounts_needed
 returns c =
-    let needed : ℕ → ℕ = λ n. discounts_needed n c.args.reversion in
-    c.about_tree.ensures ∙ entry.tree-answer _ _ needed _ _ c.clipped.ensures c.row_start_of.ensures
+    let needed : ℕ → ℕ = λ n. discounts_needed n c.before.before.before.args.reversion in
+    c.about_tree.ensures ∙ entry.tree-answer _ _ needed _ _ c.before.before.clipped.ensures c.before.row_start_of.ensures

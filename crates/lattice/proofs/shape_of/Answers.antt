@@ -6,9 +6,10 @@ use Rattle.lattice.proofs.shape_of.Goals as goal
 use Rattle.lattice.proofs.shape_of.Goals.{After-row_start_of}
 
 -- no row is wider than its number
-narrow : (c : After-row_start_of) → (c.half_width_of-half.result ≤ 60) × (c.half_width_of-next.result ≤ 60)
+narrow : (c : After-row_start_of) → (c.before.before.half_width_of-half.result ≤ 60) × (c.before.half_width_of-next.result ≤ 60)
 narrow c =
-    (omega (arith, half-within c.args.reversion c.args.row), omega (arith, half-within c.args.reversion (c.args.row + 1)))
+    let s = c.before.before.before in
+    (omega (arith, half-within s.args.reversion s.args.row), omega (arith, half-within s.args.reversion (s.args.row + 1)))
 
 pub overflow_mul-result : goal.overflow_mul-result
 overflow_mul-result c = omega (arith, narrow c)
@@ -24,9 +25,10 @@ overflow_add-result-2 c = omega (arith, narrow c)
 
 pub overflow_sub-result : goal.overflow_sub-result
 overflow_sub-result c =
-    omega (arith, half-later c.args.reversion c.args.row c.args.widest c.requires.1)
+    let s = c.before.before.before.before in
+    omega (arith, half-later s.args.reversion s.args.row s.args.widest s.requires.1)
 
 pub returns : goal.returns
 returns c =
-    shape-built _ _ _ c.half_width_of-half.ensures c.half_width_of-next.ensures
-    c.row_start_of.ensures c.half_width_of.ensures
+    shape-built _ _ _ c.before.before.before.half_width_of-half.ensures c.before.before.half_width_of-next.ensures
+    c.before.row_start_of.ensures c.half_width_of.ensures

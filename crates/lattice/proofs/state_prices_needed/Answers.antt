@@ -8,6 +8,6 @@ use Rattle.lattice.proofs.state_prices_needed.Goals as goal
 pub returns : goal.returns
 unfolding state_prices_needed
 returns c =
-    let needed : ℕ → ℕ = λ n. state_prices_needed n c.args.reversion in
-    let start = c.row_start_of.ensures ∙ ap (row_start _) (add-one _) in
-    c.about_tree.ensures ∙ entry.tree-answer _ _ needed _ _ c.clipped.ensures start
+    let needed : ℕ → ℕ = λ n. state_prices_needed n c.before.before.before.args.reversion in
+    let start = c.before.row_start_of.ensures ∙ ap (row_start _) (add-one _) in
+    c.about_tree.ensures ∙ entry.tree-answer _ _ needed _ _ c.before.before.clipped.ensures start

@@ -50,17 +50,16 @@ pub overflow_cast-size : goal.overflow_cast-size
 overflow_cast-size c = record { sfits = omega (arith, below-small (goal.at.overflow_cast-size c).After-magnitude) }
 
 pub overflow_sub-size : goal.overflow_sub-size
-overflow_sub-size c =
-    minus-fits (below (goal.at.overflow_sub-size c).After-magnitude) (omega (arith, below-small (goal.at.overflow_sub-size c).After-magnitude))
+overflow_sub-size c = minus-fits (below (goal.at.overflow_sub-size c).After-magnitude) (omega (arith, below-small (goal.at.overflow_sub-size c).After-magnitude))
 
 pub returns-then-rate-lt0 : goal.returns-then-rate-lt0
 unfolding yield_discount
 returns-then-rate-lt0 c =
-    let m = (goal.at.returns-then-rate-lt0 c).After-magnitude in
+    let m = c.before.before in
     c.of_amount.ensures
     ∙ ap (λ (z : ℤ). ranged_answer (continuous_answer z).value)
     (minus-back (below m) (omega (arith, below-small m))
-    ∙ amount-below _ _ _ c.args.rate c.requires.0 (size m) (sign (goal.at.returns-then-rate-lt0 c).Start _ c.if-rate-lt0.true))
+    ∙ amount-below _ _ _ m.args.rate m.requires.0 (size m) (sign m.before _ c.if-rate-lt0.true))
 
 pub overflow_cast-size-2 : goal.overflow_cast-size-2
 overflow_cast-size-2 c = record { sfits = omega (arith, above-small (goal.at.overflow_cast-size-2 c).After-magnitude) }
@@ -68,7 +67,7 @@ overflow_cast-size-2 c = record { sfits = omega (arith, above-small (goal.at.ove
 pub returns : goal.returns
 unfolding yield_discount
 returns c =
-    let m = (goal.at.returns c).After-magnitude in
+    let m = c.before.before in
     c.of_amount-2.ensures
     ∙ ap (λ (z : ℤ). ranged_answer (continuous_answer z).value)
-    (to_z_pos w64 (omega (arith, above-small m)) ∙ amount-above _ _ _ c.args.rate (size m) (sign (goal.at.returns c).Start _ c.if-rate-lt0.false))
+    (to_z_pos w64 (omega (arith, above-small m)) ∙ amount-above _ _ _ m.args.rate (size m) (sign m.before _ c.if-rate-lt0.false))
