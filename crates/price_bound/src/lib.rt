@@ -142,9 +142,8 @@ fn refused_bounds(number: u64) -> TreeErrorBounds
 pub fn tree_bounds(steps: usize, reversion: u64, discounts: &[u64]) -> TreeErrorBounds
     ensures { result ≡ tree_bounds_answer steps reversion discounts.now }
 {
-    let cause = lent_tree::room_cause(steps, reversion, discounts);
-    if cause != 0 {
-        return refused_bounds(cause);
+    if let Err(refusal) = lent_tree::room_cause(steps, reversion, discounts) {
+        return refused_bounds(refusal.number());
     }
     let range = tree_range(steps, reversion, discounts);
     if !range.within {

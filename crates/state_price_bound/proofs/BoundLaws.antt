@@ -28,7 +28,7 @@ use Rattle.lattice.proofs.Sizes.{start_first, start-next, start-grow, start-with
 use Rattle.lent_tree.specs.LentTree.{stored, discounts_cause, Accepted}
 use Rattle.lent_tree.proofs.LentLaws.{accepted}
 use Rattle.fit_laws.specs.StatePrices.{state_price_error_bound}
-use Rattle.state_price_bound.specs.declared.RowBounds.{RowBounds}
+use Rattle.state_price_bound.specs.ErrorBound.{RowBounds}
 use Rattle.state_price_bound.specs.ErrorBound.{
   row_cause,
   bound_cause,

@@ -3,7 +3,7 @@ use mathlib.Core.Path.{◌≡◌, ap}
 use Prim.Native.Nat.{ℕ, ◌+◌, ◌≤◌, ◌<◌}
 use lib.ListN.{length}
 use Rattle.limits.specs.Limits.{most_steps}
-use Rattle.state_price_bound.specs.declared.RowBounds.{RowBounds}
+use Rattle.state_price_bound.specs.ErrorBound.{RowBounds}
 use Rattle.sheet_laws.proofs.PartLaws as laws
 use borrow.Author.Rules.{rules}
 use native.Mathlib.Omega.{arith}
