@@ -52,6 +52,14 @@ pub ok-number : (r : Result ℕ Refusal) → false ≡ is_err r → (answer_of r
 ok-number (Ok value) t = refl
 ok-number (Err refusal) t = let z : ◌≡◌ {A = ℕ} 0 1 = cc in omega arith
 
+pub err-cause : {A : Type 0} (r : Result A Refusal) → true ≡ is_err r → cause_of r ≡ 0 → ⊥
+err-cause (Ok value) t e = let z : ◌≡◌ {A = ℕ} 0 1 = cc in omega arith
+err-cause (Err refusal) t e = refusal-some refusal e
+
+pub ok-cause : {A : Type 0} (r : Result A Refusal) → false ≡ is_err r → cause_of r ≡ 0
+ok-cause (Ok value) t = refl
+ok-cause (Err refusal) t = let z : ◌≡◌ {A = ℕ} 0 1 = cc in omega arith
+
 -- and so is one without a cause
 pub cause-ok : {A : Type 0} (r : Result A Refusal) → cause_of r ≡ 0 → IsOk r
 cause-ok (Ok value) e = refl
