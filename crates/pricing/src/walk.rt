@@ -122,7 +122,8 @@ fn bond_step(
     )
 }
 
-// Bond and option one row back. Gives the greatest value of both.
+// Bond and option one row back. Gives the greatest value of both. Compiled in place in the walk it would be slower.
+#[inline(never)]
 fn option_step(
     right: OptionStep,
     downs: &[u64],
