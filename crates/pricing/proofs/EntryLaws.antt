@@ -77,7 +77,8 @@ pub prefix-length : (k : ℕ) (t : List ℕ) → k ≤ length t → k ≡ length
 prefix-length k t h = sym (simp length-take (omega arith))
 
 -- the error bound of a tree, and the cause about it and its flows, as the code works them out
-pub tree-bounded : {n b : ℕ} {discounts flows : List ℕ} {a : Answer} {f c : ℕ} → a ≡ price_error_bound_answer n b discounts → f ≡ flows_cause n flows →
+pub tree-bounded : {n b : ℕ} {discounts flows : List ℕ} {a : Answer} {f c : ℕ} →
+    a ≡ price_error_bound_answer n b discounts → f ≡ flows_cause n flows →
     c ≡ lowest_cause a.number f → TreeBounded n b discounts flows (record { number = c; value = a.value })
 unfolding tree_cause price_error_bound_answer
 tree-bounded {n} {b} {discounts} {flows} ea ef ec =
@@ -119,8 +120,8 @@ module _ {n b : ℕ} {discounts flows : List ℕ} where
       beside-given z = priced-given 0 _ _ _ _ (bond-passed z) refl (s.bond-held z)
 
 -- an option by its kind, and one on listed rows, that the tree may have
-module _ (n kind expiry strike : ℕ) {cause : ℕ} (ec : cause ≡ option_cause n kind expiry strike) (terms : Terms) (et : terms ≡ terms_of kind expiry strike)
-    (dates : Dates) (ed : dates ≡ dates_of_kind kind expiry) where
+module _ (n kind expiry strike : ℕ) {cause : ℕ} (ec : cause ≡ option_cause n kind expiry strike) (terms : Terms)
+    (et : terms ≡ terms_of kind expiry strike) (dates : Dates) (ed : dates ≡ dates_of_kind kind expiry) where
   abbrev handed : List ℕ
   handed = take dates.count dates.rows
 

@@ -67,15 +67,23 @@ fn accepted_bond(tree: TreeShape, discounts: &[u64], flows: &[u64], bound: u64) 
 {
     let nodes = lattice::node_count(tree.reversion, tree.steps).value as usize;
     let table = table_of(tree.steps, tree.reversion);
-    let mut bond = rows::empty_row();
-    let number = walk::roll_bond(tree, 0, &table[..nodes], discounts, flows, &mut bond);
-    if number != 0 {
-        return refused(number);
-    }
-    Price {
-        number: 0,
-        value: bond[0],
-        bound,
+    let mut first = rows::empty_row();
+    let mut second = rows::empty_row();
+    match walk::roll_bond(
+        tree,
+        0,
+        &table[..nodes],
+        discounts,
+        flows,
+        &mut first,
+        &mut second,
+    ) {
+        Some(bond) => Price {
+            number: 0,
+            value: bond[0],
+            bound,
+        },
+        None => refused(12),
     }
 }
 

@@ -61,11 +61,7 @@ pub(crate) fn refused_prices(number: u64, count: usize) -> Strip
 {
     let zeros = no_answers();
     let mut numbers = no_answers();
-    let mut k: usize = 0;
-    while k < count {
-        numbers[k] = number;
-        k += 1;
-    }
+    numbers[..count].fill(number);
     Strip {
         number: 0,
         numbers,
@@ -132,15 +128,11 @@ pub(crate) fn strike_prices(
     let mut numbers = no_answers();
     let mut values = no_answers();
     let mut bounds = no_answers();
-    let mut k: usize = 0;
-    while k < strikes.len() {
-        let price = strike_price(
-            shared, dates, marks, downs, discounts, flows, kept, strikes[k],
-        );
+    for (k, strike) in strikes.iter().enumerate() {
+        let price = strike_price(shared, dates, marks, downs, discounts, flows, kept, *strike);
         numbers[k] = price.number;
         values[k] = price.value;
         bounds[k] = price.bound;
-        k += 1;
     }
     Strip {
         number: 0,

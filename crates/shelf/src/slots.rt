@@ -92,11 +92,8 @@ pub(crate) fn nodes_before(shelf: Shelf, count: usize) -> usize
     ensures { result ≡ nodes_before shelf.slots count }
 {
     let mut nodes: usize = 0;
-    let mut at: usize = 0;
-    while at < count {
-        let slot = shelf.slots[at];
-        nodes += nodes_of(slot);
-        at += 1;
+    for slot in &shelf.slots[..count] {
+        nodes += nodes_of(*slot);
     }
     nodes
 }

@@ -13,6 +13,5 @@ judged_both-requires c = (c.requires, dated-exercised _ _ (cause (goal.at.judged
 
 pub returns : goal.returns
 returns c =
-    let termed = c.before in
     let both = c.judged_both.ensures in
-    dates-both _ _ _ _ (cause (goal.at.returns c).After-lowest_cause-cause) _ termed.terms_on-terms.ensures _ _ _ _ both.bond both.option
+    dates-both _ _ _ _ (cause (goal.at.returns c).After-lowest_cause-cause) _ c.terms_on-terms.ensures _ _ _ _ both.bond both.option

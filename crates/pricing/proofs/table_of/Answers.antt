@@ -15,14 +15,9 @@ slice_bounds-table-end c =
 
 pub slice_bounds-down_probabilities-end : goal.slice_bounds-down_probabilities-end
 slice_bounds-down_probabilities-end c =
-    let half-width = c.half_width-widest in
-    let empty-row = c.empty_row-table in
     simp length-take
-    (omega (arith, widest_fits _ _ c.requires.0 c.requires.1 _ half-width.ensures, empty-row.ensures))
+    (omega (arith, widest_fits _ _ c.requires.0 c.requires.1 _ c.half_width-widest.ensures, c.empty_row-table.ensures))
 
 pub returns : goal.returns
 returns c =
-    let half-width = c.half_width-widest in
-    let empty-row = c.empty_row-table in
-    let down-probabilities = c.down_probabilities in
-    table_filled _ _ c.requires.0 c.requires.1 _ _ _ empty-row.ensures half-width.ensures down-probabilities.ensures.memory
+    table_filled _ _ c.requires.0 c.requires.1 _ _ _ c.empty_row-table.ensures c.half_width-widest.ensures c.down_probabilities.ensures.memory

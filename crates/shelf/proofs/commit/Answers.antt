@@ -29,7 +29,12 @@ returns-then-number-ne0 c =
     let tree = c.tree_of-tree.ensures in
     let fit = c.fit_part-number.ensures in
     let after = c.refused-then-number-ne0.ensures in
-    let number = commit-number implied tree (search rules) fit.number in record { number = after.0 ∙ number; slots = after.1 ∙ slots-left implied _ number c.if-number-ne0.true; memory = commit-memory implied tree (search rules) number _ fit.memory }
+    let number = commit-number implied tree (search rules) fit.number in
+    record {
+      number = after.0 ∙ number;
+      slots = after.1 ∙ slots-left implied _ number c.if-number-ne0.true;
+      memory = commit-memory implied tree (search rules) number _ fit.memory;
+    }
 
 pub fitted_slot-slot-requires : goal.fitted_slot-slot-requires
 fitted_slot-slot-requires c = omega (arith, (told (goal.at.fitted_slot-slot-requires c).Else-tree-ne1).fits)
@@ -50,4 +55,9 @@ returns c =
     let slot = c.fitted_slot-slot.ensures in
     let after = c.replaced.ensures in
     let none : c.fit_part-number.result ≡ 0 = search rules in
-    let number = commit-number implied tree (search rules) fit.number in record { number = after.0 ∙ sym none ∙ number; slots = commit-slots implied tree (search rules) number none m (search rules) fit.memory slot after.1; memory = commit-memory implied tree (search rules) number m fit.memory }
+    let number = commit-number implied tree (search rules) fit.number in
+    record {
+      number = after.0 ∙ sym none ∙ number;
+      slots = commit-slots implied tree (search rules) number none m (search rules) fit.memory slot after.1;
+      memory = commit-memory implied tree (search rules) number m fit.memory;
+    }

@@ -9,7 +9,8 @@ pub returns-then-count-lt1 : goal.returns-then-count-lt1
 returns-then-count-lt1 c = strip-none _ _ _ (sym c.shape_cause-shape.ensures ∙ c.if-shape-ne0.false) c.if-count-lt1.true
 
 pub returns-then-count-gt-MOST_STRIKES : goal.returns-then-count-gt-MOST_STRIKES
-returns-then-count-gt-MOST_STRIKES c = strip-many _ _ _ (sym c.shape_cause-shape.ensures ∙ c.if-shape-ne0.false) c.if-count-lt1.false c.if-count-gt-MOST_STRIKES.true
+returns-then-count-gt-MOST_STRIKES c =
+    strip-many _ _ _ (sym c.shape_cause-shape.ensures ∙ c.if-shape-ne0.false) c.if-count-lt1.false c.if-count-gt-MOST_STRIKES.true
 
 pub returns : goal.returns
 returns c = strip-taken _ _ _ (sym c.shape_cause-shape.ensures ∙ c.if-shape-ne0.false) c.if-count-lt1.false c.if-count-gt-MOST_STRIKES.false

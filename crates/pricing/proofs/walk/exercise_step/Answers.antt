@@ -25,7 +25,6 @@ exercise_row-requires c =
 
 pub returns : goal.returns
 returns c =
-    let c₁ = c.before.before.before in
-    let terms = c₁.args.terms in
+    let terms = c.args.terms in
     λ k h. c.exercise_row.ensures k (omega (arith, nodes (goal.at.returns c).After-flow_of))
-    ∙ ap (λ (x : ℕ). exercise (side terms.call) terms.strike (values c₁.args.bond.now k - x)) c₁.flow_of.ensures
+    ∙ ap (λ (x : ℕ). exercise (side terms.call) terms.strike (values c.args.bond.now k - x)) c.flow_of.ensures

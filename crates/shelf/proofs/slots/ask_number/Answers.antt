@@ -14,7 +14,8 @@ pub returns-then-status_of-ne0 : goal.returns-then-status_of-ne0
 returns-then-status_of-ne0 c = sym (ask-name _ _ _ _ (λ e. c.if-status_of-ne0.true (c.status_of.ensures ∙ e)))
 
 pub returns-then-needed-ne0 : goal.returns-then-needed-ne0
-returns-then-needed-ne0 c = ask-refused _ _ _ _ (free (goal.at.returns-then-needed-ne0 c).Else-status_of-ne0) _ c.discounts_needed-needed.ensures c.if-needed-ne0.true
+returns-then-needed-ne0 c =
+    ask-refused _ _ _ _ (free (goal.at.returns-then-needed-ne0 c).Else-status_of-ne0) _ c.discounts_needed-needed.ensures c.if-needed-ne0.true
 
 pub overflow_add-asked : goal.overflow_add-asked
 overflow_add-asked c =
@@ -26,8 +27,8 @@ pub returns-then-asked-nodes_before-ge-TOO_MANY : goal.returns-then-asked-nodes_
 returns-then-asked-nodes_before-ge-TOO_MANY c =
     let needed = c.discounts_needed-needed in
     let all = c.nodes_before in
-    ask-14 _ _ _ _ (free (goal.at.returns-then-asked-nodes_before-ge-TOO_MANY c).Else-status_of-ne0) needed.result needed.ensures (search rules) all.result all.ensures
-    (search rules)
+    ask-14 _ _ _ _ (free (goal.at.returns-then-asked-nodes_before-ge-TOO_MANY c).Else-status_of-ne0) needed.result needed.ensures (search rules)
+    all.result all.ensures (search rules)
 
 pub returns : goal.returns
 returns c =
