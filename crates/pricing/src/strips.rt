@@ -29,7 +29,7 @@ fn no_answers() -> [u64; MOST_STRIKES]
 pub(crate) fn strip_cause(steps: usize, reversion: u64, count: usize) -> u64
     ensures { result ≡ strip_cause steps reversion count }
 {
-    let shape = limits::shape_cause(steps, reversion);
+    let shape = arithmetic::cause(limits::shape_cause(steps, reversion));
     if shape != 0 {
         return shape;
     }
@@ -85,7 +85,7 @@ fn strike_price(
     ensures { result ≡ with_bound (value_alone (dated_price shared.steps shared.reversion discounts.now flows.now
         shared.side dates.now strike)) shared.bound }
 {
-    let about_terms = price_causes::terms_cause(shared.side, strike);
+    let about_terms = arithmetic::cause(price_causes::terms_cause(shared.side, strike));
     let cause = arithmetic::lowest_cause(about_terms, shared.list);
     if cause != 0 {
         return crate::refused(cause);

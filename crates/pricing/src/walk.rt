@@ -219,7 +219,7 @@ fn exercise_step(
     ensures { Holds option.new (node_count reversion terms.last)
         (λ k. exercise (side terms.call) terms.strike (values bond.now k - flow_at flows.now terms.last)) }
 {
-    let count = lattice::node_count(reversion, terms.last).value as usize;
+    let count = lattice::node_count(reversion, terms.last).unwrap() as usize;
     rows::exercise_row(terms, flow_of(flows, terms.last), count, bond, option);
 }
 

@@ -11,7 +11,7 @@ use Rattle.pricing.proofs.strips.strike_price.Goals.{After-lowest_cause-cause}
 cause : (c : After-lowest_cause-cause) → let a = c.args in
     c.lowest_cause-cause.result ≡ dated_cause a.shared.steps a.shared.side a.dates.now a.strike
 cause c =
-    dated-cause-is _ _ _ _ c.terms_cause-about_terms.ensures c.requires.list-is c.lowest_cause-cause.ensures
+    dated-cause-is _ _ _ _ (c.cause-about_terms.ensures ∙ c.terms_cause.ensures) c.requires.list-is c.lowest_cause-cause.ensures
 
 pub returns-then-cause-ne0 : goal.returns-then-cause-ne0
 returns-then-cause-ne0 c =
