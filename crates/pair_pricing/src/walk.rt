@@ -81,7 +81,7 @@ fn lines_of(trees: Trees, row: usize) -> usize
     requires { (trees.rate ≤ most_reversion) × (row ≤ most_pair_steps) }
     ensures { result ≡ node_count trees.rate row }
 {
-    lattice::node_count(trees.rate, row).value as usize
+    lattice::node_count(trees.rate, row).unwrap() as usize
 }
 
 // The greatest value of a row.
@@ -89,8 +89,8 @@ fn greatest_of_row(trees: Trees, row: usize, memory: &[u64; SQUARE]) -> u64
     requires { (trees.rate ≤ most_reversion) × (trees.spread ≤ most_reversion) × (row ≤ most_pair_steps) }
     ensures { result ≡ greatest_pair trees.rate trees.spread row (square memory.now) }
 {
-    let lines = lattice::node_count(trees.rate, row).value as usize;
-    let width = lattice::node_count(trees.spread, row).value as usize;
+    let lines = lattice::node_count(trees.rate, row).unwrap() as usize;
+    let width = lattice::node_count(trees.spread, row).unwrap() as usize;
     squares::greatest_value(lines, width, memory)
 }
 

@@ -1,34 +1,45 @@
 use mathlib.Core.Path.{◌∙◌}
+use Rattle.lattice.proofs.TreeEntries.{row-ok}
 use Rattle.pricing.proofs.EntryLaws.{prefix-room, prefix-is, prefix-length}
 use Rattle.exercise.specs.Terms.{side}
 use Rattle.pricing_laws.specs.inside.Marks.{marked}
 use Rattle.pair_laws.proofs.EntryLaws.{option-above, option-given}
 use Rattle.pair_pricing.proofs.accepted_option.Goals as goal
 
+pub unwrap-rate_nodes-requires : goal.unwrap-rate_nodes-requires
+unwrap-rate_nodes-requires c =
+    let a = c.requires.0.trees.rate-tree in
+    row-ok _ _ _ _ c.node_count.ensures a.limits.reversion-within-limit a.limits.steps-within-limit
+
+pub unwrap-spread_nodes-requires : goal.unwrap-spread_nodes-requires
+unwrap-spread_nodes-requires c =
+    let a = c.requires.0.trees.spread-tree in
+    row-ok _ _ _ _ c.node_count-2.ensures a.limits.reversion-within-limit a.limits.steps-within-limit
+
 pub slice_bounds-rate_table-end : goal.slice_bounds-rate_table-end
 slice_bounds-rate_table-end c =
     let a = c.requires.0.trees.rate-tree in
-    prefix-room _ _ a.limits.steps-within-limit a.limits.reversion-within-limit _ _ c.node_count-rate_nodes.ensures
+    prefix-room _ _ a.limits.steps-within-limit a.limits.reversion-within-limit _ _ (rw c.unwrap-rate_nodes.ensures at c.node_count.ensures)
     c.table_of-rate_table.ensures
 
 pub slice_bounds-roll_option-end : goal.slice_bounds-roll_option-end
 slice_bounds-roll_option-end c =
     let a = c.requires.0.trees.rate-tree in
     prefix-length _ _
-    (prefix-room _ _ a.limits.steps-within-limit a.limits.reversion-within-limit _ _ c.node_count-rate_nodes.ensures
+    (prefix-room _ _ a.limits.steps-within-limit a.limits.reversion-within-limit _ _ (rw c.unwrap-rate_nodes.ensures at c.node_count.ensures)
     c.table_of-rate_table.ensures)
 
 pub slice_bounds-spread_table-end : goal.slice_bounds-spread_table-end
 slice_bounds-spread_table-end c =
     let a = c.requires.0.trees.spread-tree in
-    prefix-room _ _ a.limits.steps-within-limit a.limits.reversion-within-limit _ _ c.node_count-spread_nodes.ensures
+    prefix-room _ _ a.limits.steps-within-limit a.limits.reversion-within-limit _ _ (rw c.unwrap-spread_nodes.ensures at c.node_count-2.ensures)
     c.table_of-spread_table.ensures
 
 pub slice_bounds-roll_option-end-2 : goal.slice_bounds-roll_option-end-2
 slice_bounds-roll_option-end-2 c =
     let a = c.requires.0.trees.spread-tree in
     prefix-length _ _
-    (prefix-room _ _ a.limits.steps-within-limit a.limits.reversion-within-limit _ _ c.node_count-spread_nodes.ensures
+    (prefix-room _ _ a.limits.steps-within-limit a.limits.reversion-within-limit _ _ (rw c.unwrap-spread_nodes.ensures at c.node_count-2.ensures)
     c.table_of-spread_table.ensures)
 
 pub roll_option-number-requires : goal.roll_option-number-requires
@@ -37,9 +48,9 @@ roll_option-number-requires c =
     let q = c.requires.0.trees.spread-tree in (
       c.requires.0,
       record {
-        rate-table = prefix-is _ _ r.limits.steps-within-limit r.limits.reversion-within-limit _ _ c.node_count-rate_nodes.ensures
+        rate-table = prefix-is _ _ r.limits.steps-within-limit r.limits.reversion-within-limit _ _ (rw c.unwrap-rate_nodes.ensures at c.node_count.ensures)
             c.table_of-rate_table.ensures;
-        spread-table = prefix-is _ _ q.limits.steps-within-limit q.limits.reversion-within-limit _ _ c.node_count-spread_nodes.ensures
+        spread-table = prefix-is _ _ q.limits.steps-within-limit q.limits.reversion-within-limit _ _ (rw c.unwrap-spread_nodes.ensures at c.node_count-2.ensures)
             c.table_of-spread_table.ensures;
       },
       c.requires.1,
