@@ -10,8 +10,7 @@ returns-then-number-ne0 c = clauses-number-memory (entry-refused implied c.cause
 
 pub store-requires : goal.store-requires
 store-requires c =
-    let a = c.args in
-    entry-room {memory = a.discounts.now} implied c.cause-number.ensures c.if-number-ne0.false
+    entry-room {memory = c.args.discounts.now} implied c.cause-number.ensures c.if-number-ne0.false
 
 pub returns : goal.returns
 returns c = clauses-number-memory (entry-stored implied c.cause-number.ensures c.if-number-ne0.false c.store.ensures)
