@@ -25,10 +25,7 @@ fn side_miss(discount: u64, below: bool, quotient: u64) -> u64
     ensures { result ≡ side_miss discount below quotient }
 {
     let found = side_discount(quotient, below);
-    if found < discount {
-        return discount - found;
-    }
-    found - discount
+    found.abs_diff(discount)
 }
 
 // Whether the discounts of one side, which start at one, have not passed the given one at a quotient.
@@ -93,10 +90,7 @@ fn reach(quotient: u64) -> u64
 fn window_start(quotient: u64, reach: u64) -> u64
     ensures { result ≡ quotient - reach }
 {
-    if quotient < reach {
-        return 0;
-    }
-    quotient - reach
+    quotient.saturating_sub(reach)
 }
 
 // A quotient with its reach and one more, at most one.
@@ -104,10 +98,7 @@ fn window_end(quotient: u64, reach: u64) -> u64
     requires { (quotient ≤ one) × (reach ≤ 100) }
     ensures { (quotient ≤ result) × (result ≤ one) × (result < one → quotient + reach + 1 ≤ result) }
 {
-    if quotient + reach < ONE {
-        return quotient + reach + 1;
-    }
-    ONE
+    (quotient + reach + 1).min(ONE)
 }
 
 // The first quotient above zero whose discount is nearest. Discounts do not fall at every quotient, but over the reach they do.

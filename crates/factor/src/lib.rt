@@ -44,23 +44,7 @@ fn series_sums(y: u64) -> Sums
 fn bounded_product(distance: u64, spacing: u64) -> u64
     ensures { result ≡ min (distance * spacing) (one + 1) }
 {
-    if distance == 0 {
-        return 0;
-    }
-    if spacing == 0 {
-        return 0;
-    }
-    if ONE < distance {
-        return ONE + 1;
-    }
-    if ONE < spacing {
-        return ONE + 1;
-    }
-    let product = distance * spacing;
-    if ONE < product {
-        return ONE + 1;
-    }
-    product
+    distance.saturating_mul(spacing).min(ONE + 1)
 }
 
 // The factors of the two nodes at a distance from the middle one.

@@ -113,11 +113,7 @@ fn row_start_of(reversion: u64, row: usize) -> usize
 fn clipped(row: usize) -> usize
     ensures { result ≡ min row most_steps }
 {
-    if row < limits::MOST_STEPS {
-        row
-    } else {
-        limits::MOST_STEPS
-    }
+    row.min(limits::MOST_STEPS)
 }
 
 fn about_row(reversion: u64, row: usize, res: usize) -> Result<u64, Refusal>

@@ -28,6 +28,5 @@ loop-price-preserved c =
 pub returns : goal.returns
 unfolding failing_price
 returns c =
-    let a = c.args in
     let end : c.loop-price.price ≡ value_limit + 1 = omega (arith, c.loop-price.invariant.most) in
     searched-none (rw end at c.loop-price.invariant)
