@@ -12,3 +12,4 @@ pub mod CauseLaws
 pub mod BetweenLaws
 pub mod PartLaws
 pub mod PaddedLaws
+pub mod ListSums

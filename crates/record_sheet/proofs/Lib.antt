@@ -1,3 +1,2 @@
 pub mod AnswerLaws
 mod DrawLaws
-pub mod SumLaws

@@ -6,7 +6,7 @@ use Rattle.arithmetic.specs.Row.{sum_of}
 use Rattle.row_view.specs.declared.RowKind.TheVariants.{StatePrices}
 use native.Mathlib.Numerals.{add-one}
 use Rattle.sheet_laws.proofs.PartLaws as laws
-use Rattle.record_sheet.proofs.SumLaws.{sum-listed}
+use Rattle.arithmetic.proofs.ListSums.{sum-listed}
 use borrow.Author.Rules.{rules}
 use native.Mathlib.Omega.{arith}
 use Rattle.record_sheet.proofs.lines.put_row.Goals as goal
