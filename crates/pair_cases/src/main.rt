@@ -17,12 +17,7 @@ fn fill(numbers: &mut [u64], base: u64, factor: u64, range: u64)
 
 // The first numbers of a list, or all where it has fewer.
 fn first(numbers: &[u64], count: usize) -> &[u64] {
-    let start = 0;
-    if count <= numbers.len() {
-        &numbers[start..count]
-    } else {
-        numbers
-    }
+    &numbers[..count.min(numbers.len())]
 }
 
 fn number(n: u64) {
