@@ -29,7 +29,8 @@ ghost use Rattle.job_record.specs.Form.{
   body_formed,
   well_formed,
 };
-ghost use Rattle.job_record.specs.Reader.{tag_of, data_of, date_of, no_option, kind_option_at, list_option_at, option_at, version_of, job_of, no_job, reading_of};
+ghost use Rattle.job_record.specs.Reader.{tag_of, data_of, date_of, no_option, kind_option_at, list_option_at, option_at};
+ghost use Rattle.job_record.specs.Reader.{version_of, job_of, no_job, reading_of};
 ghost use Rattle.job_record.specs.Grammar.{ReadsAs};
 
 use job_record::{Job, OptionRecord, Reading, Tags};

@@ -71,7 +71,9 @@ returns c =
     let a = c.args in
     let l = c.loop-index in
     let none : l.index ≡ 0 = omega arith in
-    let put = ended _ (λ (i : ℕ). longest_line * i) a.count (fits (goal.at.returns c).Start (λ k. (c.type_inv.discounts k).fits)) a.out.now a.end l.invariant none c.requires.inside in
+    let put =
+    ended _ (λ (i : ℕ). longest_line * i) a.count (fits (goal.at.returns c).Start (λ k. (c.type_inv.discounts k).fits))
+    a.out.now a.end l.invariant none c.requires.inside in
     let counted = before-length a.discounts.now a.next a.count c.requires.standing c.requires.next-within in
     let line = node_text a.row (nodes_before a.discounts.now a.next a.count) in
     clauses-answer-memory (drawn-whole 0 a.out.now a.end _ (a.next - a.count)
