@@ -13,3 +13,4 @@ pub mod BetweenLaws
 pub mod PartLaws
 pub mod PaddedLaws
 pub mod RefusalLaws
+pub mod ListSums

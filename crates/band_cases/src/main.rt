@@ -51,10 +51,8 @@ fn number_at(bytes: &[u8], at: usize) -> u64 {
 fn read_numbers(bytes: &[u8], numbers: &mut [u64])
     requires { length numbers.old ≤ 320 }
 {
-    let mut k = 0usize;
-    while k < numbers.len() {
-        numbers[k] = number_at(bytes, 8 * k);
-        k += 1;
+    for (k, number) in numbers.iter_mut().enumerate() {
+        *number = number_at(bytes, 8 * k);
     }
 }
 
@@ -106,12 +104,10 @@ fn show_worths(
     if rows.len() != prices.len() {
         return;
     }
-    let mut k = 0usize;
-    while k < rows.len() {
+    for (row, price) in rows.iter().zip(prices) {
         show_worth(
-            firsts, lasts, lowests, highests, haircuts, rows[k], prices[k],
+            firsts, lasts, lowests, highests, haircuts, *row, *price,
         );
-        k += 1;
     }
 }
 
@@ -151,13 +147,11 @@ fn show_next(input: &[u8], at: usize) -> usize {
 // There are fewer frames than bytes.
 fn show_all(input: &[u8]) {
     let mut at = 0usize;
-    let mut left = input.len();
-    while 0 < left {
+    for _ in 0..input.len() {
         at = show_next(input, at);
         if at == 0 {
             return;
         }
-        left -= 1;
     }
 }
 

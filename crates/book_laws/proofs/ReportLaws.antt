@@ -118,7 +118,8 @@ module _ (b : Book) where
       (omega (arith, p.place), omega (arith, p.place, p.within, p.same))
 
   pub book-stands : {out₀ out₁ out₂ : List ℕ} {end s₁ s₂ : ℕ} → Put out₀ end (sum_lines b.bonds b.options b.error_bounds b.place) s₁ out₁
-      → Put out₁ s₁ (refusal_lines b.refused) s₂ out₂ → s₁ ≤ s₂ + longest_line * most_number → longest_line * most_number + longest_line ≤ s₁ → b.priced < 2 ^ 64
+      → Put out₁ s₁ (refusal_lines b.refused) s₂ out₂ → s₁ ≤ s₂ + longest_line * most_number → longest_line * most_number + longest_line ≤ s₁ →
+      b.priced < 2 ^ 64
       → {answer : Placed} {after : List ℕ}
       → Lined priced_word out₂ s₂ (whole_line priced_word b.priced) answer after → Put out₀ end (book_lines b) answer.start after
   unfolding book_lines

@@ -37,10 +37,8 @@ fn put_refusals(out: &mut [u8], end: usize, counts: &[u64]) -> usize
     ensures end_bound { end ≤ result + longest_line * most_number }
 {
     let mut start = end;
-    let mut left = 13usize;
-    while left > 0 {
-        left -= 1;
-        let line = text::pair_line(out, start, b"refused ", left as u64 + 1, counts[left]);
+    for index in (0..counts.len()).rev() {
+        let line = text::pair_line(out, start, b"refused ", index as u64 + 1, counts[index]);
         start = line.start;
     }
     start

@@ -98,7 +98,7 @@ fn put_node_line(
     line.start
 }
 
-// The last node's line comes first, so that the lines stand in order. The place of the next node goes down with each.
+// The last node's line comes first, so that the lines stand in order.
 fn put_row_nodes(
     out: &mut [u8],
     end: usize,
@@ -112,19 +112,16 @@ fn put_row_nodes(
     ensures memory { out.new ≡ put_before out.old end (row_text row (nodes_before discounts.now next count)) }
 {
     let half_width = count / 2;
+    let first = next - count;
     let mut start = end;
-    let mut place = next;
-    let mut left = count;
-    while left > 0 {
-        left -= 1;
-        place -= 1;
-        let node = node_reader::node_at(discounts, place);
-        start = put_node_line(out, start, row, half_width, left, node.discount);
+    for index in (0..count).rev() {
+        let node = node_reader::node_at(discounts, first + index);
+        start = put_node_line(out, start, row, half_width, index, node.discount);
     }
     Drawn {
         number: 0,
         start,
-        next: place,
+        next: first,
     }
 }
 

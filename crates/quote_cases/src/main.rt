@@ -326,11 +326,9 @@ fn show_line(i: usize)
 }
 
 fn print_memory(memory: &[u64]) {
-    let mut i = 0usize;
-    while i < memory.len() {
+    for number in memory {
         io::write_all(1, b" ");
-        io::print_decimal(1, memory[i]);
-        i += 1;
+        io::print_decimal(1, *number);
     }
     io::write_all(1, b"\n");
 }
@@ -408,18 +406,14 @@ fn show_case(i: usize)
 }
 
 fn show_curves() {
-    let mut i = 0usize;
-    while i < 20 {
+    for i in 0..20 {
         show_case(i);
-        i += 1;
     }
 }
 
 fn main() {
-    let mut i = 0usize;
-    while i < 64 {
+    for i in 0..64 {
         show_line(i);
-        i += 1;
     }
     show_curves();
 }

@@ -1,5 +1,5 @@
 // The lines of a priced tree, put into a lent buffer from its end.
-ghost use Rattle.std.specs.Prelude.{◌≡◌, suc, ◌+◌, ◌*◌, ◌≤◌, ◌<◌, length};
+ghost use Rattle.std.specs.Prelude.{◌≡◌, suc, ◌+◌, ◌*◌, ◌^◌, ◌≤◌, ◌<◌, sum, length};
 ghost use Rattle.sheet_room.specs.Room.{sheet_room};
 ghost use Rattle.text_laws.specs.Lines.{longest_line};
 ghost use Rattle.arithmetic.specs.Row.{sum_of};
@@ -30,16 +30,10 @@ struct Row {
 }
 
 fn row_total(row: &[u64]) -> u64
-    requires { sum_of row.now ≤ sum_limit }
-    ensures { result ≡ sum_of row.now }
+    requires { sum row.now < 2 ^ 64 }
+    ensures { result ≡ sum row.now }
 {
-    let mut sum = 0u64;
-    let mut index = 0usize;
-    while index < row.len() {
-        sum += row[index];
-        index += 1;
-    }
-    sum
+    row.iter().sum()
 }
 
 // The node lines of all rows, whose nodes stand before `next`. The last row's come first, so that the lines stand in order; the place goes down
@@ -57,14 +51,12 @@ fn put_node_rows(
 {
     let mut start = end;
     let mut place = next;
-    let mut left = steps;
-    while left > 0 {
-        left -= 1;
-        let count = lattice::node_count(reversion, left);
+    for row in (0..steps).rev() {
+        let count = lattice::node_count(reversion, row);
         let lines = node_lines::node_lines(
             out,
             start,
-            left as u64,
+            row as u64,
             discounts,
             place,
             count.value as usize,
@@ -161,13 +153,10 @@ fn put_rows<'a>(
         state_prices.now) result out.new }
 {
     let mut start = end;
-    let mut left = tree.steps;
-    while left > 0 {
-        let bound = bounds[left];
-        left -= 1;
+    for index in (0..tree.steps).rev() {
         let row = Row {
-            before: left,
-            bound,
+            before: index,
+            bound: bounds[index + 1],
         };
         start = put_row(out, start, tree, row, quotes, discounts, state_prices);
     }

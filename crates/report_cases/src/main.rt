@@ -35,10 +35,8 @@ fn write_amount(room: &mut [u8], word: &[u8], value: u64) {
 }
 
 fn write_refusals(room: &mut [u8], counts: [u64; 13]) {
-    let mut k = 0usize;
-    while k < 13 {
-        write_pair(room, b"refused ", k as u64 + 1, counts[k]);
-        k += 1;
+    for (k, count) in counts.iter().enumerate() {
+        write_pair(room, b"refused ", k as u64 + 1, *count);
     }
 }
 
@@ -141,16 +139,13 @@ fn next_file(totals: Totals, input: &[u8], at: usize) -> Step {
 fn read_all(input: &[u8]) -> Totals {
     let mut totals = no_totals();
     let mut at = 0usize;
-    let mut left = input.len();
-    while 0 < left {
+    for _ in 0..input.len() {
         let step = next_file(totals, input, at);
-        let next = step.totals;
+        totals = step.totals;
         if step.at == 0 {
-            return next;
+            return totals;
         }
-        totals = next;
         at = step.at;
-        left -= 1;
     }
     totals
 }

@@ -50,13 +50,8 @@ fn put_word(out: &mut [u8], end: usize, word: &[u8]) -> usize
     requires { (length word.now ≤ end) × (end ≤ length out.old) }
     ensures { Put out.old end word.now result out.new }
 {
-    let mut start = end;
-    let mut left = word.len();
-    while left > 0 {
-        left -= 1;
-        start -= 1;
-        out[start] = word[left];
-    }
+    let start = end - word.len();
+    out[start..end].copy_from_slice(word);
     start
 }
 
@@ -69,17 +64,13 @@ fn put_fraction(out: &mut [u8], end: usize, number: u64, decimals: usize) -> usi
         return end;
     }
     let mut rest = number;
-    let mut start = end;
-    let mut left = decimals;
-    while left > 0 {
-        start -= 1;
-        out[start] = 48 + (rest % 10) as u8;
+    let point = end - decimals - 1;
+    for place in (point + 1..end).rev() {
+        out[place] = 48 + (rest % 10) as u8;
         rest /= 10;
-        left -= 1;
     }
-    start -= 1;
-    out[start] = b'.';
-    start
+    out[point] = b'.';
+    point
 }
 
 // The digits of a number, with no zeros in front.

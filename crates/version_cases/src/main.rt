@@ -26,10 +26,8 @@ fn total(kind: u64, frequency: u64, volatility: u64, block: u64) -> u64
     requires { block ≤ 60 }
 {
     let mut sum: u64 = 0;
-    let mut index: u64 = 0;
-    while index < BLOCK {
+    for index in 0..BLOCK {
         sum += figure(kind, frequency, volatility, block * BLOCK + index);
-        index += 1;
     }
     sum
 }
@@ -54,9 +52,7 @@ fn show_block(block: u64)
 }
 
 fn main() {
-    let mut block: u64 = 0;
-    while block <= LAST_BLOCK {
+    for block in 0..=LAST_BLOCK {
         show_block(block);
-        block += 1;
     }
 }

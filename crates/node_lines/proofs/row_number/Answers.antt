@@ -25,8 +25,7 @@ standing c = let a = c.args in stand-known a.count a.next (length a.discounts.no
 
 pub returns-then-not-is_row : goal.returns-then-not-is_row
 returns-then-not-is_row c =
-    let e = c.before.before in
-    let a = e.args in
+    let a = c.args in
     read-no-row a.size a.end a.row a.discounts.now a.next a.count (stands (goal.at.returns-then-not-is_row c).Else-not-stand_before)
     (sym c.is_row.ensures ∙ c.if-not-is_row.true)
 
@@ -36,10 +35,9 @@ shaped c = sym c.is_row.ensures ∙ c.if-not-is_row.false
 
 pub returns-then-not-has_room : goal.returns-then-not-has_room
 returns-then-not-has_room c =
-    let row-known = c.before.before in
-    let e = row-known.before.before in
-    let a = e.args in
-    read_short a.size a.end a.row a.discounts.now a.next a.count (stands (goal.at.returns-then-not-has_room c).Else-not-stand_before) (shaped (goal.at.returns-then-not-has_room c).Else-not-is_row)
+    let a = c.args in
+    read_short a.size a.end a.row a.discounts.now a.next a.count (stands (goal.at.returns-then-not-has_room c).Else-not-stand_before)
+    (shaped (goal.at.returns-then-not-has_room c).Else-not-is_row)
     (sym c.has_room.ensures ∙ c.if-not-has_room.true)
 
 -- where its lines have room
@@ -60,25 +58,22 @@ tested : (c : After-all_between) →
     let a = c.args in
     accepted_nodes (nodes_before a.discounts.now a.next a.count) ≡ c.all_between.result
 tested c =
-    let e = c.before.before.before.before.before.before in
-    let a = e.args in
-    let lent = before_lent a.discounts.now a.next a.count (standing (goal.at.After-all_between c).Else-not-stand_before).0 (standing (goal.at.After-all_between c).Else-not-stand_before).1 in
+    let a = c.args in
+    let lent =
+    before_lent a.discounts.now a.next a.count (standing (goal.at.After-all_between c).Else-not-stand_before).0
+    (standing (goal.at.After-all_between c).Else-not-stand_before).1 in
     ap accepted_nodes (sym lent) ∙ accepted-found _ c.all_between.result c.all_between.ensures
 
 pub returns-then-not-all_between : goal.returns-then-not-all_between
 returns-then-not-all_between c =
-    let room-known = c.before.before.before in
-    let row-known = room-known.before.before in
-    let e = row-known.before.before in
-    let a = e.args in
-    read-judged a.size a.end a.row a.discounts.now a.next a.count (stands (goal.at.returns-then-not-all_between c).Else-not-stand_before) (shaped (goal.at.returns-then-not-all_between c).Else-not-is_row) (roomy (goal.at.returns-then-not-all_between c).Else-not-has_room)
+    let a = c.args in
+    read-judged a.size a.end a.row a.discounts.now a.next a.count (stands (goal.at.returns-then-not-all_between c).Else-not-stand_before)
+    (shaped (goal.at.returns-then-not-all_between c).Else-not-is_row) (roomy (goal.at.returns-then-not-all_between c).Else-not-has_room)
     false (tested (goal.at.returns-then-not-all_between c).After-all_between ∙ c.if-not-all_between.true)
 
 pub returns : goal.returns
 returns c =
-    let room-known = c.before.before.before in
-    let row-known = room-known.before.before in
-    let e = row-known.before.before in
-    let a = e.args in
-    read-judged a.size a.end a.row a.discounts.now a.next a.count (stands (goal.at.returns c).Else-not-stand_before) (shaped (goal.at.returns c).Else-not-is_row) (roomy (goal.at.returns c).Else-not-has_room)
+    let a = c.args in
+    read-judged a.size a.end a.row a.discounts.now a.next a.count (stands (goal.at.returns c).Else-not-stand_before)
+    (shaped (goal.at.returns c).Else-not-is_row) (roomy (goal.at.returns c).Else-not-has_room)
     true (tested (goal.at.returns c).After-all_between ∙ c.if-not-all_between.false)

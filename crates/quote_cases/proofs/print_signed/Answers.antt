@@ -10,17 +10,14 @@ small s = omega (arith, s.requires)
 
 pub overflow_sub-value : goal.overflow_sub-value
 overflow_sub-value c =
-    let s = c.before.before.before.before in
-    negated_fits s.args.value (small (goal.at.overflow_sub-value c).Start) s.ranges.value c.if-value-lt0.true
+    negated_fits c.args.value (small (goal.at.overflow_sub-value c).Start) c.ranges.value c.if-value-lt0.true
 
 pub overflow_cast-value : goal.overflow_cast-value
 overflow_cast-value c =
-    let s = c.before.before.before.before in
-    rw (negated_back s.args.value (small (goal.at.overflow_cast-value c).Start) s.ranges.value c.if-value-lt0.true)
+    rw (negated_back c.args.value (small (goal.at.overflow_cast-value c).Start) c.ranges.value c.if-value-lt0.true)
     (tt, record { fits = omega (arith, small (goal.at.overflow_cast-value c).Start) })
 
 pub overflow_cast-value-2 : goal.overflow_cast-value-2
 overflow_cast-value-2 c =
-    let s = c.before.before in
-    let same = back s.args.value (small (goal.at.overflow_cast-value-2 c).Start) s.ranges.value in
-    rw same (is_whole s.args.value (rw same at c.if-value-lt0.false), record { fits = omega (arith, small (goal.at.overflow_cast-value-2 c).Start) })
+    let same = back c.args.value (small (goal.at.overflow_cast-value-2 c).Start) c.ranges.value in
+    rw same (is_whole c.args.value (rw same at c.if-value-lt0.false), record { fits = omega (arith, small (goal.at.overflow_cast-value-2 c).Start) })

@@ -27,16 +27,14 @@ slice_bounds-put_sheet-end-3 c = (known (goal.at.slice_bounds-put_sheet-end-3 c)
 
 pub put_sheet-requires : goal.put_sheet-requires
 put_sheet-requires c =
-    let counted = c.before.before.before.before in
     let k = known (goal.at.put_sheet-requires c).After-state_prices_needed-price_count in
-    record { stored = (k.stored, sym k.quotes-count, counted.requires.fitted.1); summed = k.summed }
+    record { stored = (k.stored, sym k.quotes-count, c.requires.fitted.1); summed = k.summed }
 
 pub returns : goal.returns
 returns c =
-    let counted = c.before.before.before.before.before in
     let k = known (goal.at.returns c).After-state_prices_needed-price_count in
-    laws.text-put counted.args.job _ _ _ _ counted.args.prices k.reversion-is k.quotes-are k.discounts-are k.prices-are counted.requires.prices_value
-    counted.args.out.now _ _ _ c.put_sheet.ensures
+    laws.text-put c.args.job _ _ _ _ c.args.prices k.reversion-is k.quotes-are k.discounts-are k.prices-are c.requires.prices_value
+    c.args.out.now _ _ _ c.put_sheet.ensures
 
 pub quote_room-quotes-requires : goal.quote_room-quotes-requires
 quote_room-quotes-requires c = tt

@@ -15,7 +15,8 @@ clauses-value-out_after w = record { value = w.0; out_after = w.1 }
 
 pub returns-then-cause-ne0 : goal.returns-then-cause-ne0
 returns-then-cause-ne0 c =
-    let a = c.args in clauses-value-out_after (word-refused a.word.now a.out.now a.end _ c.word_number-cause.result c.word_number-cause.ensures c.if-cause-ne0.true)
+    let a = c.args in
+    clauses-value-out_after (word-refused a.word.now a.out.now a.end _ c.word_number-cause.result c.word_number-cause.ensures c.if-cause-ne0.true)
 
 room : (c : Else-cause-ne0) →
     (length c.args.word.now ≤ longest_word) × (longest_line ≤ c.args.end)

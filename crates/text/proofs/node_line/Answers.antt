@@ -19,17 +19,18 @@ cause c =
 
 pub returns-then-cause-ne0 : goal.returns-then-cause-ne0
 returns-then-cause-ne0 c =
-    let a = c.args in clauses-value-out_after (node-refused a.out.now a.end a.row a.discount _ _ (cause (goal.at.returns-then-cause-ne0 c).After-lowest_cause-cause) c.if-cause-ne0.true)
+    let a = c.args in
+    clauses-value-out_after
+    (node-refused a.out.now a.end a.row a.discount _ _ (cause (goal.at.returns-then-cause-ne0 c).After-lowest_cause-cause) c.if-cause-ne0.true)
 
 pub put_node-start-requires : goal.put_node-start-requires
 put_node-start-requires c =
-    let accepted = c.before.before in
-    node-room-known _ _ accepted.args.discount _ (cause (goal.at.put_node-start-requires c).After-lowest_cause-cause) accepted.if-cause-ne0.false
+    node-room-known _ _ c.args.discount _ (cause (goal.at.put_node-start-requires c).After-lowest_cause-cause) c.if-cause-ne0.false
 
 pub returns : goal.returns
 returns c =
-    let accepted = c.before.before.before in
-    let a = accepted.args in
-    let rate = accepted.of_discount-rate in
-    let r = value-back a.discount rate.result rate.ensures ∙ ap (λ (r : Rate). r.value) rate.ensures in clauses-value-out_after (node-put a.out.now a.end a.row a.discount _ _ (cause (goal.at.returns c).After-lowest_cause-cause) accepted.if-cause-ne0.false _ r
-    (rw (to_z-of_z accepted.ranges.node) at c.put_node-start.ensures))
+    let a = c.args in
+    let rate = c.of_discount-rate in
+    let r = value-back a.discount rate.result rate.ensures ∙ ap (λ (r : Rate). r.value) rate.ensures in
+    clauses-value-out_after (node-put a.out.now a.end a.row a.discount _ _ (cause (goal.at.returns c).After-lowest_cause-cause) c.if-cause-ne0.false _ r
+    (rw (to_z-of_z c.ranges.node) at c.put_node-start.ensures))

@@ -14,7 +14,8 @@ clauses-value-out_after w = record { value = w.0; out_after = w.1 }
 
 pub returns-then-cause-ne0 : goal.returns-then-cause-ne0
 returns-then-cause-ne0 c =
-    let a = c.args in clauses-value-out_after (word-refused a.word.now a.out.now a.end _ c.word_number-cause.result c.word_number-cause.ensures c.if-cause-ne0.true)
+    let a = c.args in
+    clauses-value-out_after (word-refused a.word.now a.out.now a.end _ c.word_number-cause.result c.word_number-cause.ensures c.if-cause-ne0.true)
 
 room : (c : Else-cause-ne0) →
     (length c.args.word.now ≤ longest_word) × (longest_line ≤ c.args.end)
@@ -29,7 +30,8 @@ put_field-second_start-requires c =
     (omega arith, omega (arith, field_room 0 c.args.second 10 c.ranges.second.fits), r.2)
 
 -- where the second number is put, and the room that it leaves
-put-room : (c : After-put_field-second_start) → (106 ≤ c.put_field-second_start.result) × (c.put_field-second_start.result ≤ length c.put_field-second_start.new.out)
+put-room : (c : After-put_field-second_start) →
+    (106 ≤ c.put_field-second_start.result) × (c.put_field-second_start.result ≤ length c.put_field-second_start.new.out)
 put-room c =
     let r = room (goal.at.After-put_field-second_start c).Else-cause-ne0 in
     room-left 22 106 c.put_field-second_start.ensures (omega arith) (field_room 0 c.args.second 10 c.ranges.second.fits)

@@ -12,7 +12,8 @@ clauses-value-out_after : {A B : Type 0} → A × B → record { value : A; out_
 clauses-value-out_after w = record { value = w.0; out_after = w.1 }
 
 pub returns-then-cause-ne0 : goal.returns-then-cause-ne0
-returns-then-cause-ne0 c = clauses-value-out_after (line_refused c.args.out.now c.args.end _ c.line_number-cause.result c.line_number-cause.ensures c.if-cause-ne0.true)
+returns-then-cause-ne0 c =
+    clauses-value-out_after (line_refused c.args.out.now c.args.end _ c.line_number-cause.result c.line_number-cause.ensures c.if-cause-ne0.true)
 
 room : (c : Else-cause-ne0) → (longest_line ≤ c.args.end) × (c.args.end ≤ length c.args.out.now)
 room c =
@@ -20,9 +21,11 @@ room c =
     room-known (length a.out.now) a.end (sym c.line_number-cause.ensures ∙ c.if-cause-ne0.false)
 
 pub put_bounded-price_start-requires : goal.put_bounded-price_start-requires
-put_bounded-price_start-requires c = (omega (arith, (room (goal.at.put_bounded-price_start-requires c).Else-cause-ne0).0), (room (goal.at.put_bounded-price_start-requires c).Else-cause-ne0).1)
+put_bounded-price_start-requires c =
+    (omega (arith, (room (goal.at.put_bounded-price_start-requires c).Else-cause-ne0).0), (room (goal.at.put_bounded-price_start-requires c).Else-cause-ne0).1)
 
-price-put : (c : After-put_bounded-price_start) → (75 ≤ c.put_bounded-price_start.result) × (c.put_bounded-price_start.result ≤ length c.put_bounded-price_start.new.out)
+price-put : (c : After-put_bounded-price_start) →
+    (75 ≤ c.put_bounded-price_start.result) × (c.put_bounded-price_start.result ≤ length c.put_bounded-price_start.new.out)
 price-put c =
     room-left 53 75 c.put_bounded-price_start.ensures (omega (arith, (room (goal.at.After-put_bounded-price_start c).Else-cause-ne0).0))
     (bounded-room c.args.price c.args.bound c.ranges.price.fits c.ranges.bound.fits)
@@ -35,5 +38,6 @@ put_word-start-requires c =
 pub returns : goal.returns
 unfolding price_line
 returns c =
-    let priced = c.before.before.before.before in
-    let a = priced.args in clauses-value-out_after (line-put a.out.now a.end _ (room (goal.at.returns c).Else-cause-ne0).0 (put-before priced.put_bounded-price_start.ensures c.put_word-start.ensures))
+    let a = c.args in
+    clauses-value-out_after
+    (line-put a.out.now a.end _ (room (goal.at.returns c).Else-cause-ne0).0 (put-before c.put_bounded-price_start.ensures c.put_word-start.ensures))

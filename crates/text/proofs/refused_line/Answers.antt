@@ -26,4 +26,5 @@ returns c =
     let line-number = c.line_number-cause in
     let if1 = c.if-cause-ne0 in
     let put-label = c.put_label-start in
-    let r = room-known (length c.args.out.now) c.args.end (sym line-number.ensures ∙ if1.false) in clauses-value-out_after (line-put c.args.out.now c.args.end _ r.0 put-label.ensures)
+    let r = room-known (length c.args.out.now) c.args.end (sym line-number.ensures ∙ if1.false) in
+    clauses-value-out_after (line-put c.args.out.now c.args.end _ r.0 put-label.ensures)

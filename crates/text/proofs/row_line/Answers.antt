@@ -14,7 +14,8 @@ clauses-value-out_after : {A B : Type 0} → A × B → record { value : A; out_
 clauses-value-out_after w = record { value = w.0; out_after = w.1 }
 
 pub returns-then-cause-ne0 : goal.returns-then-cause-ne0
-returns-then-cause-ne0 c = clauses-value-out_after (line_refused c.args.out.now c.args.end _ c.line_number-cause.result c.line_number-cause.ensures c.if-cause-ne0.true)
+returns-then-cause-ne0 c =
+    clauses-value-out_after (line_refused c.args.out.now c.args.end _ c.line_number-cause.result c.line_number-cause.ensures c.if-cause-ne0.true)
 
 room : (c : Else-cause-ne0) → (longest_line ≤ c.args.end) × (c.args.end ≤ length c.args.out.now)
 room c =
@@ -22,20 +23,22 @@ room c =
     room-known (length a.out.now) a.end (sym c.line_number-cause.ensures ∙ c.if-cause-ne0.false)
 
 pub put_bounded-total_start-requires : goal.put_bounded-total_start-requires
-put_bounded-total_start-requires c = (omega (arith, (room (goal.at.put_bounded-total_start-requires c).Else-cause-ne0).0), (room (goal.at.put_bounded-total_start-requires c).Else-cause-ne0).1)
+put_bounded-total_start-requires c =
+    (omega (arith, (room (goal.at.put_bounded-total_start-requires c).Else-cause-ne0).0), (room (goal.at.put_bounded-total_start-requires c).Else-cause-ne0).1)
 
-total-put : (c : After-put_bounded-total_start) → (75 ≤ c.put_bounded-total_start.result) × (c.put_bounded-total_start.result ≤ length c.put_bounded-total_start.new.out)
+total-put : (c : After-put_bounded-total_start) →
+    (75 ≤ c.put_bounded-total_start.result) × (c.put_bounded-total_start.result ≤ length c.put_bounded-total_start.new.out)
 total-put c =
     room-left 53 75 c.put_bounded-total_start.ensures (omega (arith, (room (goal.at.After-put_bounded-total_start c).Else-cause-ne0).0))
     (bounded-room c.args.total c.args.bound c.ranges.total.fits c.ranges.bound.fits)
 
 pub put_field-quote_start-requires : goal.put_field-quote_start-requires
 put_field-quote_start-requires c =
-    let totalled = c.before.before.before in
     let r = total-put (goal.at.put_field-quote_start-requires c).After-put_bounded-total_start in
-    (omega arith, omega (arith, field_room 9 totalled.args.quote 32 totalled.ranges.quote.fits), r.1)
+    (omega arith, omega (arith, field_room 9 c.args.quote 32 c.ranges.quote.fits), r.1)
 
-quote-put : (c : After-put_field-quote_start) → (44 ≤ c.put_field-quote_start.result) × (c.put_field-quote_start.result ≤ length c.put_field-quote_start.new.out)
+quote-put : (c : After-put_field-quote_start) →
+    (44 ≤ c.put_field-quote_start.result) × (c.put_field-quote_start.result ≤ length c.put_field-quote_start.new.out)
 quote-put c =
     let r = total-put (goal.at.After-put_field-quote_start c).After-put_bounded-total_start in
     room-left 31 44 c.put_field-quote_start.ensures (omega arith) (field_room 9 c.args.quote 32 c.ranges.quote.fits)
@@ -48,4 +51,6 @@ unfolding row_line
 returns c =
     let totalled = c in
     let a = totalled.args in
-    let fields = put-before totalled.put_bounded-total_start.ensures c.put_field-quote_start.ensures in clauses-value-out_after (line-put a.out.now a.end _ (room (goal.at.returns c).Else-cause-ne0).0 (laws.put-label row_word _ fields c.put_label-start.ensures))
+    let fields = put-before totalled.put_bounded-total_start.ensures c.put_field-quote_start.ensures in
+    clauses-value-out_after
+    (line-put a.out.now a.end _ (room (goal.at.returns c).Else-cause-ne0).0 (laws.put-label row_word _ fields c.put_label-start.ensures))

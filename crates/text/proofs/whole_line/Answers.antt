@@ -9,7 +9,8 @@ clauses-value-out_after w = record { value = w.0; out_after = w.1 }
 
 pub returns-then-cause-ne0 : goal.returns-then-cause-ne0
 returns-then-cause-ne0 c =
-    let a = c.args in clauses-value-out_after (word-refused a.word.now a.out.now a.end _ c.word_number-cause.result c.word_number-cause.ensures c.if-cause-ne0.true)
+    let a = c.args in
+    clauses-value-out_after (word-refused a.word.now a.out.now a.end _ c.word_number-cause.result c.word_number-cause.ensures c.if-cause-ne0.true)
 
 pub put_label-start-requires : goal.put_label-start-requires
 put_label-start-requires c =
@@ -20,4 +21,5 @@ put_label-start-requires c =
 pub returns : goal.returns
 unfolding whole_line
 returns c =
-    let a = c.args in clauses-value-out_after (word-put a.word.now a.out.now a.end _ _ c.word_number-cause.ensures c.if-cause-ne0.false c.put_label-start.ensures)
+    let a = c.args in
+    clauses-value-out_after (word-put a.word.now a.out.now a.end _ _ c.word_number-cause.ensures c.if-cause-ne0.false c.put_label-start.ensures)
