@@ -66,11 +66,11 @@ impl Refusal {
 }
 
 // The number of what was refused, or 0.
-pub fn cause(outcome: Result<(), Refusal>) -> u64
+pub fn cause<A: Copy>(outcome: Result<A, Refusal>) -> u64
     ensures { result ≡ cause_of outcome }
 {
     match outcome {
-        Ok(()) => 0,
+        Ok(_) => 0,
         Err(refusal) => refusal.number(),
     }
 }

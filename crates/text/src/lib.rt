@@ -166,14 +166,14 @@ pub fn node_line(out: &mut [u8], end: usize, row: u64, node: i64, discount: u64)
     ensures out_after { out.new ≡ with_text (node_number (length out.old) end discount) out.old end (line_of_node row node discount) }
 {
     let rate = step_rate::of_discount(discount);
-    let cause = arithmetic::lowest_cause(line_number(out.len(), end), rate.number);
+    let cause = arithmetic::lowest_cause(line_number(out.len(), end), arithmetic::cause(rate));
     if cause != 0 {
         return Placed {
             number: cause,
             start: 0,
         };
     }
-    let start = put_node(out, end, row, node, discount, rate.value);
+    let start = put_node(out, end, row, node, discount, rate.unwrap());
     Placed { number: 0, start }
 }
 
