@@ -1,9 +1,9 @@
 // Floats, lone points, both rates of discounts and curves, whose answers were worked out apart, in exact fractions (vectors.py).
 #![tactic(auto)]
 
-ghost use Rattle.std.specs.Prelude.{◌≤◌, ◌<◌, nat_abs, length};
+ghost use Rattle.std.specs.Prelude.{◌≤◌, ◌<◌, length};
 
-use arithmetic::Answer;
+use arithmetic::Refusal;
 use quotes::Point;
 
 const PATTERNS: [u64; 64] = [
@@ -260,37 +260,34 @@ const KINDS_LENT: [usize; 20] = [3, 3, 3, 3, 3, 2, 3, 3, 3, 3, 3, 3, 3, 3, 3, 3,
 
 const PLACES_LENT: [usize; 20] = [5, 3, 5, 5, 5, 5, 2, 0, 5, 5, 5, 5, 0, 4, 5, 5, 4, 5, 3, 5];
 
-fn print_refusal(number: u64) {
+fn print_refusal(refusal: Refusal) {
     io::write_all(1, b"refused ");
-    io::print_decimal(1, number);
+    io::print_decimal(1, refusal.number());
 }
 
-fn print_whole(answer: Answer) {
-    if answer.number != 0 {
-        print_refusal(answer.number);
-        return;
+fn print_whole(outcome: Result<u64, Refusal>) {
+    match outcome {
+        Ok(value) => {
+            io::print_decimal(1, value);
+        }
+        Err(refusal) => print_refusal(refusal),
     }
-    io::print_decimal(1, answer.value);
 }
 
-fn print_signed(number: u64, value: i64)
-    requires { nat_abs value ≤ 1000000000000000000 }
-{
-    if number != 0 {
-        print_refusal(number);
-        return;
+fn print_signed(outcome: Result<i64, Refusal>) {
+    match outcome {
+        Ok(value) => {
+            if value < 0 {
+                io::write_all(1, b"-");
+            }
+            io::print_decimal(1, value.unsigned_abs());
+        }
+        Err(refusal) => print_refusal(refusal),
     }
-    if value < 0 {
-        io::write_all(1, b"-");
-        io::print_decimal(1, (-value) as u64);
-        return;
-    }
-    io::print_decimal(1, value as u64);
 }
 
 fn show_figure(bits: u64) {
-    let figure = figure::billionths(figure::of_pattern(bits));
-    print_signed(figure.number, figure.value);
+    print_signed(figure::billionths(figure::of_pattern(bits)));
 }
 
 fn show_point(frequency: u64, kind: u8, row: u64, bits: u64) {
@@ -302,13 +299,11 @@ fn show_point(frequency: u64, kind: u8, row: u64, bits: u64) {
 }
 
 fn show_rate(discount: u64) {
-    let rate = step_rate::of_discount(discount);
-    print_signed(rate.number, rate.value);
+    print_signed(step_rate::of_discount(discount));
 }
 
 fn show_continuous_rate(discount: u64) {
-    let rate = continuous_rate::of_discount(discount);
-    print_signed(rate.number, rate.value);
+    print_signed(continuous_rate::of_discount(discount));
 }
 
 // A figure, a discount and a discount's two rates, on a line.
@@ -345,8 +340,8 @@ fn show_lent(
 )
     requires { room ≤ length memory.old }
 {
-    let number = curve::convert(frequency, steps, rows, kinds, figures, &mut memory[..room]);
-    io::print_decimal(1, number);
+    let converted = curve::convert(frequency, steps, rows, kinds, figures, &mut memory[..room]);
+    io::print_decimal(1, arithmetic::cause(converted));
     print_memory(memory);
 }
 

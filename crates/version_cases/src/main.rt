@@ -13,12 +13,12 @@ fn figure(kind: u64, frequency: u64, volatility: u64, reversion: u64) -> u64
     ensures { result ≤ 1000000000 }
 {
     if kind == 1 {
-        return reversion::working_reversion(2, reversion).value;
+        return reversion::working_reversion(2, reversion).unwrap_or(0);
     }
     if kind == 2 {
-        return reversion::variance_ratio(2, reversion).value;
+        return reversion::variance_ratio(2, reversion).unwrap_or(0);
     }
-    spacing::version_spacing(2, frequency, volatility, reversion).value
+    spacing::version_spacing(2, frequency, volatility, reversion).unwrap_or(0)
 }
 
 // The sum over a block of reversions, with 0 for those beyond the limit.
