@@ -1,0 +1,5 @@
+use Rattle.reversion.proofs.EntryLaws.{ratio-answer-most}
+use Rattle.version_cases.proofs.ratio.Goals as goal
+
+pub returns : goal.returns
+returns c = rw c.variance_ratio.ensures (ratio-answer-most 2 c.args.reversion)
