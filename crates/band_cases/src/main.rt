@@ -24,19 +24,6 @@ fn show_verdict(verdict: Verdict) {
     io::write_all(1, b"\n");
 }
 
-fn two_bytes(high: u8, low: u8) -> u64
-    ensures { result ≤ 65535 }
-{
-    high as u64 * 256 + low as u64
-}
-
-fn four_bytes(bytes: &[u8], at: usize) -> u64
-    requires { at + 4 ≤ length bytes.now }
-    ensures { result ≤ 4294967295 }
-{
-    two_bytes(bytes[at], bytes[at + 1]) * 65536 + two_bytes(bytes[at + 2], bytes[at + 3])
-}
-
 // The number at a place, or 0 where the bytes end before it does.
 fn number_at(bytes: &[u8], at: usize) -> u64 {
     if bytes.len() < 8 {
@@ -45,7 +32,9 @@ fn number_at(bytes: &[u8], at: usize) -> u64 {
     if bytes.len() - 8 < at {
         return 0;
     }
-    four_bytes(bytes, at) * 4294967296 + four_bytes(bytes, at + 4)
+    let mut eight = [0u8; 8];
+    eight.copy_from_slice(&bytes[at..at + 8]);
+    u64::from_be_bytes(eight)
 }
 
 fn read_numbers(bytes: &[u8], numbers: &mut [u64])
@@ -105,9 +94,7 @@ fn show_worths(
         return;
     }
     for (row, price) in rows.iter().zip(prices) {
-        show_worth(
-            firsts, lasts, lowests, highests, haircuts, *row, *price,
-        );
+        show_worth(firsts, lasts, lowests, highests, haircuts, *row, *price);
     }
 }
 
