@@ -1,5 +1,6 @@
 // Parts of the memory: one is opened or closed by moving what stands behind it, and a tree is fitted in one.
 ghost use Rattle.std.specs.Prelude.{◌≡◌, ◌++◌, ◌+◌, ◌-◌, ◌≤◌, length, take, drop};
+ghost use Rattle.arithmetic.specs.Refusals.{cause_of};
 ghost use Rattle.arithmetic.specs.Row.{place};
 ghost use Rattle.limits.specs.Limits.{most_state_prices};
 ghost use Rattle.spacing.specs.Spacing.{spacing};
@@ -7,6 +8,7 @@ ghost use Rattle.fitted_laws.specs.Entry.{fit_number, fit_memory, fit_discounts}
 ghost use Rattle.shelf_laws.specs.Parts.{part, opened, closed};
 ghost use Rattle.shelf_laws.specs.Shelf.{fitted_slot};
 
+use arithmetic::Refusal;
 use shelf_laws::{Located, Slot};
 
 // Moves what stands from `at` on up by `count`; the last `count` numbers fall out.
@@ -57,12 +59,12 @@ pub(crate) fn fit_part(
     rows: &[u64],
     kinds: &[u8],
     figures: &[f64],
-) -> u64
+) -> Result<(), Refusal>
     requires { tree.start + tree.count ≤ length memory.old }
-    ensures number { result ≡ fit_number frequency tree.steps tree.reversion volatility
+    ensures number { cause_of result ≡ fit_number frequency tree.steps tree.reversion volatility
         rows.now kinds.now figures.now tree.count most_state_prices }
     ensures memory { memory.new ≡ place memory.old tree.start
-        (fit_memory result (fit_discounts frequency tree.steps tree.reversion (spacing frequency volatility) kinds.now figures.now)
+        (fit_memory (cause_of result) (fit_discounts frequency tree.steps tree.reversion (spacing frequency volatility) kinds.now figures.now)
         (part memory.old tree.start tree.count)) }
 {
     let mut state_prices = limits::state_price_room();
