@@ -53,7 +53,7 @@ overflow_mul-widest c =
     let t = seen (goal.at.overflow_mul-widest c).After-lowest_refusal-2 _ c.in_ok-lowest_refusal.ensures in
     let e = spaced (goal.at.overflow_mul-widest c).After-unwrap-spacing in
     let fits : c.unwrap-widest.result * c.unwrap-spacing.result ≤ 5109549860 =
-        rw e at (laws.product-fits t refl (rw c.unwrap-widest.ensures at c.half_width.ensures)) in
+    rw e at (laws.product-fits t refl (rw c.unwrap-widest.ensures at c.half_width.ensures)) in
     omega arith
 
 pub returns-then-widest-spacing-gt-ONE : goal.returns-then-widest-spacing-gt-ONE
@@ -68,7 +68,7 @@ returns c =
     let e = spaced (goal.at.returns c).After-unwrap-spacing in
     subst
     (λ (x : ℕ). Planned c.args.steps c.args.reversion (cause_of c.args.converted) (answer_of c.args.spaced).number
-        (answer_of c.args.spaced).value c.args.discounts c.args.state_prices
-        (record { number = 0; spacing = x; widest = c.unwrap-widest.result }))
+    (answer_of c.args.spaced).value c.args.discounts c.args.state_prices
+    (record { number = 0; spacing = x; widest = c.unwrap-widest.result }))
     e
     (laws.plan-made t refl (rw c.unwrap-widest.ensures at c.half_width.ensures) (rw e c.if-widest-spacing-gt-ONE.false))
