@@ -62,16 +62,16 @@ fn draw<'a>(
     let steps = job.steps;
     let reversion = job_fit::meant_reversion(job.version, job.reversion);
     let mut quotes = quote_room();
-    job_fit::quotes_of_record(job, &mut quotes);
-    let discount_count = lattice::discounts_needed(steps, reversion);
-    let price_count = lattice::state_prices_needed(steps, reversion);
+    job_fit::quotes_of_record(job, &mut quotes).unwrap();
+    let discount_count = lattice::discounts_needed(steps, reversion).unwrap();
+    let price_count = lattice::state_prices_needed(steps, reversion).unwrap();
     lines::put_sheet(
         out,
         steps,
         reversion,
         &quotes[..steps],
-        &discounts[..discount_count.value as usize],
-        &state_prices[..price_count.value as usize],
+        &discounts[..discount_count as usize],
+        &state_prices[..price_count as usize],
         prices,
     )
 }

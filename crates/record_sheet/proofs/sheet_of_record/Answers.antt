@@ -76,21 +76,3 @@ pub returns : goal.returns
 returns c =
     clauses-answer-memory
     (answers.sheet-put _ _ c.args.out.now _ _ (sym (number_is (goal.at.returns c).After-lowest_cause-cause) ∙ c.if-cause-ne0.false) c.draw-start.ensures)
-
-pub discount_room-discounts-requires : goal.discount_room-discounts-requires
-discount_room-discounts-requires c = tt
-
-pub state_price_room-state_prices-requires : goal.state_price_room-state_prices-requires
-state_price_room-state_prices-requires c = tt
-
-pub prices_in_place-prices-requires : goal.prices_in_place-prices-requires
-prices_in_place-prices-requires c = tt
-
-pub room_cause-requires : goal.room_cause-requires
-room_cause-requires c = tt
-
-pub lowest_cause-cause-requires : goal.lowest_cause-cause-requires
-lowest_cause-cause-requires c = tt
-
-pub refused-requires : goal.refused-requires
-refused-requires c = tt
