@@ -271,7 +271,7 @@ pub extern "C" fn mixegorta_price_error_bound(
 ) -> Answer
     ensures { result ≡ price_error_bound_answer steps reversion discounts.now }
 {
-    price_bound::price_error_bound(steps, reversion, discounts)
+    Answer::from(price_bound::price_error_bound(steps, reversion, discounts))
 }
 
 #[unsafe(no_mangle)]
@@ -282,7 +282,7 @@ pub extern "C" fn mixegorta_tree_bounds(
 ) -> TreeErrorBounds
     ensures { result ≡ tree_bounds_answer steps reversion discounts.now }
 {
-    price_bound::tree_bounds(steps, reversion, discounts)
+    TreeErrorBounds::from(price_bound::tree_bounds(steps, reversion, discounts))
 }
 
 #[unsafe(no_mangle)]
