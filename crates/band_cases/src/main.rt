@@ -8,6 +8,7 @@
 ghost use Rattle.std.specs.Prelude.{◌+◌, ◌≤◌, length};
 
 use bands::Verdict;
+use lending::Worth;
 
 const HEAD: usize = 6;
 
@@ -75,7 +76,9 @@ fn show_worth(
     row: u64,
     price: u64,
 ) {
-    let answer = lending::lending_worth(firsts, lasts, lowests, highests, haircuts, row, price);
+    let answer = Worth::from(lending::lending_worth(
+        firsts, lasts, lowests, highests, haircuts, row, price,
+    ));
     io::write_all(1, b"worth");
     show(answer.worth);
     show_verdict(answer.verdict);
@@ -115,7 +118,7 @@ fn show_table(bytes: &[u8]) {
     let rows = numbers_from(&numbers, rows_at, pairs);
     let prices = numbers_from(&numbers, rows_at + pairs, pairs);
     io::write_all(1, b"table");
-    show_verdict(bands::check_bands(firsts, lasts, lowests, highests, haircuts));
+    show_verdict(Verdict::from(bands::check_bands(firsts, lasts, lowests, highests, haircuts)));
     show_worths(firsts, lasts, lowests, highests, haircuts, rows, prices);
 }
 

@@ -271,7 +271,7 @@ pub extern "C" fn mixegorta_price_error_bound(
 ) -> Answer
     ensures { result ≡ price_error_bound_answer steps reversion discounts.now }
 {
-    price_bound::price_error_bound(steps, reversion, discounts)
+    Answer::from(price_bound::price_error_bound(steps, reversion, discounts))
 }
 
 #[unsafe(no_mangle)]
@@ -282,7 +282,7 @@ pub extern "C" fn mixegorta_tree_bounds(
 ) -> TreeErrorBounds
     ensures { result ≡ tree_bounds_answer steps reversion discounts.now }
 {
-    price_bound::tree_bounds(steps, reversion, discounts)
+    TreeErrorBounds::from(price_bound::tree_bounds(steps, reversion, discounts))
 }
 
 #[unsafe(no_mangle)]
@@ -670,13 +670,13 @@ pub extern "C" fn mixegorta_check_bands(
     ensures { result ≡ verdict first_rows.now last_rows.now lowest_prices.now
         highest_prices.now haircuts.now }
 {
-    bands::check_bands(
+    Verdict::from(bands::check_bands(
         first_rows,
         last_rows,
         lowest_prices,
         highest_prices,
         haircuts,
-    )
+    ))
 }
 
 #[unsafe(no_mangle)]
@@ -692,7 +692,7 @@ pub extern "C" fn mixegorta_lending_worth(
     ensures { result ≡ lending_worth first_rows.now last_rows.now lowest_prices.now
         highest_prices.now haircuts.now row price }
 {
-    lending::lending_worth(
+    Worth::from(lending::lending_worth(
         first_rows,
         last_rows,
         lowest_prices,
@@ -700,7 +700,7 @@ pub extern "C" fn mixegorta_lending_worth(
         haircuts,
         row,
         price,
-    )
+    ))
 }
 
 // ---- a rate tree and a spread tree together

@@ -131,10 +131,10 @@ fn tree_bound(steps: usize, reversion: u64, discounts: &[u64], flows: &[u64]) ->
     ensures { TreeBounded steps reversion discounts.now flows.now result }
 {
     let bound = price_bound::price_error_bound(steps, reversion, discounts);
-    let about_flows = arithmetic::cause(price_causes::flows_cause(steps, flows));
+    let cause = arithmetic::lowest_refusal(bound, price_causes::flows_cause(steps, flows));
     Answer {
-        number: arithmetic::lowest_cause(bound.number, about_flows),
-        value: bound.value,
+        number: arithmetic::cause(cause),
+        value: bound.unwrap_or(0),
     }
 }
 

@@ -9,6 +9,7 @@ ghost use Rattle.shelf_laws.specs.Parts.{part, opened, closed};
 ghost use Rattle.shelf_laws.specs.Shelf.{fitted_slot};
 
 use arithmetic::Refusal;
+use price_bound::TreeErrorBounds;
 use shelf_laws::{Located, Slot};
 
 // Moves what stands from `at` on up by `count`; the last `count` numbers fall out.
@@ -90,7 +91,11 @@ pub(crate) fn fitted_slot(memory: &[u64], tree: Located) -> Slot
 {
     let start = tree.start;
     let end = start + tree.count;
-    let found = price_bound::tree_bounds(tree.steps, tree.reversion, &memory[start..end]);
+    let found = TreeErrorBounds::from(price_bound::tree_bounds(
+        tree.steps,
+        tree.reversion,
+        &memory[start..end],
+    ));
     let rows = found.greatest;
     Slot {
         status: 2,

@@ -1,4 +1,5 @@
 use mathlib.Core.Path.{sym, ◌∙◌}
+use native.Mathlib.Omega.{arith}
 use Rattle.arithmetic.proofs.Implied.{implied}
 use Rattle.bands.proofs.TestLaws.{lengths-agree}
 use Rattle.bands.proofs.VerdictLaws.{table-bad, table-many, table-pairs, verdict-lengths, verdict-table}
@@ -7,16 +8,16 @@ use Rattle.bands.proofs.check_bands.Goals as goal
 pub returns-then-not-have_one_length : goal.returns-then-not-have_one_length
 returns-then-not-have_one_length c = verdict-lengths implied (sym c.have_one_length.ensures ∙ c.if-not-have_one_length.true)
 
-pub first_bad-bad-requires : goal.first_bad-bad-requires
-first_bad-bad-requires c = lengths-agree implied (sym c.have_one_length.ensures ∙ c.if-not-have_one_length.false)
+pub first_bad-requires : goal.first_bad-requires
+first_bad-requires c = lengths-agree implied (sym c.have_one_length.ensures ∙ c.if-not-have_one_length.false)
 
-pub returns-then-bad-firsts : goal.returns-then-bad-firsts
-returns-then-bad-firsts c =
-    table-bad _ _ _ c.first_bad-bad.ensures c.if-bad-firsts.true ∙ verdict-table implied (sym c.have_one_length.ensures ∙ c.if-not-have_one_length.false)
+pub returns-in-Some : goal.returns-in-Some
+returns-in-Some c =
+    table-bad _ _ _ c.in-Some.ensures.0 c.in-Some.ensures.1 ∙ verdict-table implied (sym c.have_one_length.ensures ∙ c.if-not-have_one_length.false)
 
 pub returns-then-firsts-gt-MOST_BANDS : goal.returns-then-firsts-gt-MOST_BANDS
 returns-then-firsts-gt-MOST_BANDS c =
-    table-many _ _ _ c.first_bad-bad.ensures c.if-bad-firsts.false c.if-firsts-gt-MOST_BANDS.true
+    table-many _ _ _ c.in_default.ensures (omega arith) c.if-firsts-gt-MOST_BANDS.true
     ∙ verdict-table implied (sym c.have_one_length.ensures ∙ c.if-not-have_one_length.false)
 
 pub judge_pairs-requires : goal.judge_pairs-requires
@@ -26,5 +27,5 @@ judge_pairs-requires c =
 pub returns : goal.returns
 returns c =
     c.judge_pairs.ensures
-    ∙ (table-pairs _ _ _ c.first_bad-bad.ensures c.if-bad-firsts.false c.if-firsts-gt-MOST_BANDS.false
+    ∙ (table-pairs _ _ _ c.in_default.ensures (omega arith) c.if-firsts-gt-MOST_BANDS.false
     ∙ verdict-table implied (sym c.have_one_length.ensures ∙ c.if-not-have_one_length.false))

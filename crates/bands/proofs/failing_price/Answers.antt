@@ -13,8 +13,7 @@ loop-price-init c = searched-start (omega arith)
 pub returns-then-covering-ne1 : goal.returns-then-covering-ne1
 unfolding failing_price
 returns-then-covering-ne1 c =
-    searched-found c.loop-price.price c.loop-price.invariant (omega arith)
-    (stop-fails c.stop_at-stop.ensures c.if-covering-ne1.true)
+    (searched-found c.loop-price.price c.loop-price.invariant (omega arith) (stop-fails c.stop_at-stop.ensures c.if-covering-ne1.true), omega arith)
 
 pub loop-price-smaller : goal.loop-price-smaller
 loop-price-smaller c = omega (arith, c.stop_at-stop.ensures.further)

@@ -13,8 +13,7 @@ loop-k-init c = searched-start (omega arith)
 pub returns-then-not-is_sound : goal.returns-then-not-is_sound
 unfolding bad_index
 returns-then-not-is_sound c =
-    searched-found c.loop-k.k c.loop-k.invariant (omega arith)
-    (ap not (sym c.is_sound.ensures ∙ c.if-not-is_sound.true))
+    (searched-found c.loop-k.k c.loop-k.invariant (omega arith) (ap not (sym c.is_sound.ensures ∙ c.if-not-is_sound.true)), omega arith)
 
 pub loop-k-preserved : goal.loop-k-preserved
 loop-k-preserved c =

@@ -1,5 +1,5 @@
 use Rattle.std.proofs.Common.{refl, arith}
-use Rattle.price_bound.proofs.BoundLaws.{part_room, greatest-part, judged-part}
+use Rattle.price_bound.proofs.BoundLaws.{part_room, part-ranged}
 use Rattle.price_bound.proofs.row_range.Goals as goal
 
 pub overflow_add-end : goal.overflow_add-end
@@ -12,9 +12,4 @@ pub slice_bounds-range_of-end : goal.slice_bounds-range_of-end
 slice_bounds-range_of-end c = part_room _ _ _ _ c.requires.0 c.requires.1 _ c.row_shape-shape.ensures
 
 pub returns : goal.returns
-returns c =
-    let e = c.row_shape-shape.ensures in
-    record {
-      within = judged-part _ _ _ _ c.requires.0 c.requires.1 _ e _ _ refl c.range_of.ensures.within;
-      greatest = λ t. greatest-part _ _ _ _ c.requires.0 c.requires.1 _ e _ _ refl (c.range_of.ensures.greatest t);
-    }
+returns c = part-ranged _ _ _ _ c.requires.0 c.requires.1 _ c.row_shape-shape.ensures _ refl _ c.range_of.ensures
