@@ -171,7 +171,8 @@ fn stop_at(
 }
 
 // The lowest price of a row that is in no band or in several, if there is one. Between two stops the number of bands that contain a price
-// does not change, so that only the stops are looked at.
+// does not change, so that only the stops are looked at. Inside its one caller the walk takes a tenth longer.
+#[inline(never)]
 fn failing_price(
     firsts: &[u64],
     lasts: &[u64],
