@@ -94,8 +94,7 @@ fn put_node_line(
     ensures { Put out.old end (line_of_node row (node_of_index half_width index) discount) result out.new }
 {
     let node = index as i64 - half_width as i64;
-    let line = text::node_line(out, end, row, node, discount);
-    line.start
+    text::node_line(out, end, row, node, discount).unwrap()
 }
 
 // The last node's line comes first, so that the lines stand in order.
@@ -115,8 +114,8 @@ fn put_row_nodes(
     let first = next - count;
     let mut start = end;
     for index in (0..count).rev() {
-        let node = node_reader::node_at(discounts, first + index);
-        start = put_node_line(out, start, row, half_width, index, node.discount);
+        let discount = node_reader::node_at(discounts, first + index).unwrap();
+        start = put_node_line(out, start, row, half_width, index, discount);
     }
     Drawn {
         number: 0,

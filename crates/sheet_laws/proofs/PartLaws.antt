@@ -23,7 +23,7 @@ use Rattle.row_view.specs.declared.RowKind.{RowKind}
 use Rattle.row_view.specs.RowView.{is_tree, holds_tree, stores_row, memory_of, is_shown, view_start, view_count, PartOf}
 use Rattle.arithmetic.proofs.Implied.{implied}
 use Rattle.row_view.proofs.ViewLaws.{is-stored}
-use Rattle.text_laws.specs.declared.Placed.{Placed}
+use Rattle.text_laws.specs.Put.{Placed}
 use Rattle.text_laws.specs.inside.Put.{Put}
 use Rattle.node_lines.specs.declared.Drawn.{Drawn}
 use Rattle.node_lines.specs.Rows.{node_text, row_text, accepted_nodes}

@@ -1,6 +1,7 @@
 -- Laws of the lines: how long they are, and what a call leaves.
 -- Assumes nothing.
 use mathlib.Core.Path.{◌≡◌, refl, sym, ◌∙◌, subst}
+use mathlib.Core.Bool.{Bool, true, false}
 use mathlib.Core.List.{List, ◌++◌, append_assoc}
 use Prim.Native.Nat.{ℕ, ◌+◌, ◌≤◌, ◌<◌, ◌^◌}
 use native.Mathlib.Omega.{arith}
@@ -8,13 +9,13 @@ use borrow.Author.Tests.{le-leb, lt-leb}
 use lib.IntN.{ℤ, nat_abs}
 use lib.ListN.{length, length-append}
 use Rattle.arithmetic.specs.Answers.{lowest_cause}
-use Rattle.arithmetic.proofs.CauseLaws.{lowest-first, lowest-none}
-use Rattle.arithmetic.proofs.Numbers.{by_order}
-use Rattle.limits.specs.Limits.{most_discount}
+use Rattle.arithmetic.proofs.CauseLaws.{lowest-first, lowest-second, lowest-less, lowest-none}
+use Rattle.arithmetic.proofs.Numbers.{by_order, by_equal}
+use Rattle.limits.specs.Limits.{most_discount, is_discount}
 use Rattle.step_rate.specs.declared.Rate.{Rate}
 use Rattle.step_rate.specs.StepRate.{rate_answer}
 use Rattle.step_rate.proofs.RateLaws.{answer-known, value-bound}
-use Rattle.text_laws.specs.declared.Placed.{Placed}
+use Rattle.text_laws.specs.Put.{Placed}
 use Rattle.text_laws.specs.inside.Put.{Put}
 use Rattle.text_laws.specs.Lines.{space, newline, whole_number, amount, node_line, row_line, price_line, line_number, node_number, line_of_node, longest_line}
 use Rattle.text_laws.proofs.DecimalLaws.{decimal-room, field_room, signed-room}
@@ -112,6 +113,34 @@ module _ (size end discount : ℕ) where
       → found ≡ node_number size end discount
   unfolding node_number
   node-cause rate room found er em ef = ef ∙ rw (er, em)
+
+  -- a discount's own cause is 9
+  rate-cause : ((rate_answer discount).number ≡ 0 → ⊥) → (rate_answer discount).number ≡ 9
+  unfolding rate_answer
+  rate-cause some = by-test (is_discount discount) refl
+    where
+      by-test : (b : Bool) → is_discount discount ≡ b → (rate_answer discount).number ≡ 9
+      by-test true e = absurd (some (rw e))
+      by-test false e = rw e
+
+  line-small : line_number size end ≤ 6
+  line-small =
+      by_order longest_line end
+      (λ h. by_order end size (λ l. omega (arith, number-none size end h l)) (λ l. omega (arith, number-outside size end h l)))
+      (λ h. omega (arith, number-near size end h))
+
+  -- so that of the room comes first
+  pub node-near : (line_number size end ≡ 0 → ⊥) → line_number size end ≡ node_number size end discount
+  unfolding node_number
+  node-near some =
+      by_equal (rate_answer discount).number 0
+      (λ z. lowest-second _ _ some z)
+      (λ nz. lowest-less _ _ some nz (omega (arith, line-small, rate-cause nz)))
+
+  -- and that of the discount where there is room
+  pub node-far : line_number size end ≡ 0 → (rate_answer discount).number ≡ node_number size end discount
+  unfolding node_number
+  node-far z = lowest-first _ _ z
 
   pub node-room-known : (found : ℕ) → found ≡ node_number size end discount → found ≡ 0 → (longest_line ≤ end) × (end ≤ size)
   unfolding node_number

@@ -7,7 +7,7 @@ use native.Mathlib.Omega.{arith}
 use borrow.Author.Tests.{le-leb, lt-leb}
 use lib.ListN.{length, length-append}
 use Rattle.arithmetic.proofs.Numbers.{by_order}
-use Rattle.text_laws.specs.declared.Placed.{Placed}
+use Rattle.text_laws.specs.Put.{Placed}
 use Rattle.text_laws.specs.inside.Put.{Put}
 use Rattle.text_laws.specs.Decimal.{natural, natural_within, last_digits, decimal}
 use Rattle.text_laws.specs.Lines.{line_number, longest_line}
