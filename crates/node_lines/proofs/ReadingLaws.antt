@@ -15,9 +15,8 @@ use Rattle.text_laws.specs.Lines.{line_of_node}
 use Rattle.text_laws.specs.Put.{put_before, with_text}
 use Rattle.text_laws.specs.inside.Put.{Put}
 use Rattle.text_laws.proofs.PutLaws.{put_whole}
-use Rattle.node_lines.specs.declared.Drawn.{Drawn}
 use Rattle.node_lines.specs.Rows.{node_text, is_row, has_room_for, accepted_nodes, row_number}
-use Rattle.node_lines.specs.Reading.{stand_before, nodes_before, read_number, drawn_of}
+use Rattle.node_lines.specs.Reading.{Drawn, stand_before, nodes_before, read_number, drawn_of}
 use Rattle.node_lines.specs.inside.Preconditions.{Readable}
 use Rattle.node_lines.proofs.RowLaws.{and_both, row-none, row-short, row-judged, row_room, row-accepted, row_within, row-discount}
 

@@ -25,7 +25,7 @@ use Rattle.arithmetic.proofs.Implied.{implied}
 use Rattle.row_view.proofs.ViewLaws.{is-stored}
 use Rattle.text_laws.specs.Put.{Placed}
 use Rattle.text_laws.specs.inside.Put.{Put}
-use Rattle.node_lines.specs.declared.Drawn.{Drawn}
+use Rattle.node_lines.specs.Reading.{Drawn}
 use Rattle.node_lines.specs.Rows.{node_text, row_text, accepted_nodes}
 use Rattle.node_lines.specs.Reading.{nodes_before, read_number}
 use Rattle.node_lines.proofs.RowLaws.{lines-room, text-room, part-accepted, row_is, row-number-none}

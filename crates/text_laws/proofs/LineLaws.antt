@@ -15,11 +15,14 @@ use Rattle.limits.specs.Limits.{most_discount, is_discount}
 use Rattle.step_rate.specs.declared.Rate.{Rate}
 use Rattle.step_rate.specs.StepRate.{rate_answer}
 use Rattle.step_rate.proofs.RateLaws.{answer-known, value-bound}
-use Rattle.text_laws.specs.Put.{Placed}
+use Rattle.std.specs.Prelude.{Result}
+use Rattle.std.specs.Result.{IsOk}
+use Rattle.arithmetic.specs.declared.Refusal.{Refusal}
+use Rattle.text_laws.specs.Put.{Placed, placed_of}
 use Rattle.text_laws.specs.inside.Put.{Put}
 use Rattle.text_laws.specs.Lines.{space, newline, whole_number, amount, node_line, row_line, price_line, line_number, node_number, line_of_node, longest_line}
 use Rattle.text_laws.proofs.DecimalLaws.{decimal-room, field_room, signed-room}
-use Rattle.text_laws.proofs.PutLaws.{put-before, Answered, put_refused, put-answered, answered-put}
+use Rattle.text_laws.proofs.PutLaws.{put-before, Answered, put_refused, put-answered, answered-ok, answered-put}
 
 -- ---- no line is longer than 128 bytes
 
@@ -76,7 +79,12 @@ module _ (out : List ℕ) (end : ℕ) (line : List ℕ) where
       (record { number = 0; start = start }) after
   line-put h p = put-answered _ out end line (sym (number-none (length out) end h p.within)) p
 
-  -- the same for a caller: the line was put where it had room
+  -- for a caller: a line that has room is not refused
+  pub line-ok : (answer : Result ℕ Refusal) {after : List ℕ} → longest_line ≤ end → end ≤ length out →
+      Answered (line_number (length out) end) out end line (placed_of answer) after → IsOk answer
+  line-ok answer h p a = answered-ok _ out end line answer a (sym (number-none (length out) end h p))
+
+  -- it was put
   pub line-stands : {answer : Placed} {after : List ℕ} → longest_line ≤ end → end ≤ length out → length line ≤ longest_line
       → Answered (line_number (length out) end) out end line answer after → Put out end line answer.start after
   line-stands h p l a = answered-put _ out end line a (sym (number-none (length out) end h p)) (omega arith) p
@@ -168,6 +176,12 @@ pub node-line-room : (row discount : ℕ) (node : ℤ) → row < 2 ^ 64 → disc
     → length (line_of_node row node discount) ≤ longest_line
 unfolding line_of_node
 node-line-room row discount node a b c = node-room row discount node _ a b c (omega (arith, value-bound discount (rate_answer discount) refl))
+
+module _ (out : List ℕ) (end row discount : ℕ) (node : ℤ) where
+  -- it is not refused where it has room and its discount a step rate
+  pub node-ok : (answer : Result ℕ Refusal) {after : List ℕ} → longest_line ≤ end → end ≤ length out → 0 < discount → discount ≤ most_discount →
+      Answered (node_number (length out) end discount) out end (line_of_node row node discount) (placed_of answer) after → IsOk answer
+  node-ok answer h p l m a = answered-ok _ out end _ answer a (node-number-none (length out) end discount h p l m)
 
 -- the line was put where it had room and its discount a step rate
 pub node-stands : (out : List ℕ) (end row discount : ℕ) (node : ℤ) {answer : Placed} {after : List ℕ} → longest_line ≤ end → end ≤ length out → 0 < discount
