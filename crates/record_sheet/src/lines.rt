@@ -52,15 +52,8 @@ fn put_node_rows(
     let mut start = end;
     let mut place = next;
     for row in (0..steps).rev() {
-        let count = lattice::node_count(reversion, row);
-        let lines = node_lines::node_lines(
-            out,
-            start,
-            row as u64,
-            discounts,
-            place,
-            count.value as usize,
-        );
+        let count = lattice::node_count(reversion, row).unwrap() as usize;
+        let lines = node_lines::node_lines(out, start, row as u64, discounts, place, count);
         start = lines.start;
         place = lines.next;
     }
@@ -204,8 +197,7 @@ pub(crate) fn put_sheet<'a>(
     let bond = prices.bond;
     let option = prices.option;
     let prices_start = put_prices(out, end, bond, prices.has_option, option);
-    let known = state_price_bound::state_price_error_bounds(steps, reversion, discounts);
-    let bounds = known.bounds;
+    let bounds = state_price_bound::state_price_error_bounds(steps, reversion, discounts).unwrap();
     let rows_start = put_rows(
         out,
         prices_start,

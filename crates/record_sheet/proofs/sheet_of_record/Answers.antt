@@ -28,7 +28,7 @@ number_is : (c : After-lowest_cause-cause) →
 number_is c =
     let a = c.args in
     laws.cause-is a.job _ (largest (goal.at.After-lowest_cause-cause c).After-prices_in_place-prices)
-    a.out.now _ _ c.room_cause.ensures c.lowest_cause-cause.ensures
+    a.out.now _ _ (c.cause.ensures ∙ c.room_cause.ensures) c.lowest_cause-cause.ensures
 
 pub returns-then-cause-ne0 : goal.returns-then-cause-ne0
 returns-then-cause-ne0 c =
@@ -41,13 +41,13 @@ no-cause : (c : Else-cause-ne0) → c.prices_in_place-prices.result.number ≡ 0
 no-cause c =
     let a = c.args in
     laws.priced-none a.job _ (largest (goal.at.Else-cause-ne0 c).After-prices_in_place-prices)
-    a.out.now _ _ c.room_cause.ensures c.lowest_cause-cause.ensures c.if-cause-ne0.false
+    a.out.now _ _ (c.cause.ensures ∙ c.room_cause.ensures) c.lowest_cause-cause.ensures c.if-cause-ne0.false
 
 room : (c : Else-cause-ne0) → sheet_room ≤ length c.args.out.now
 room c =
     let a = c.args in
     laws.room-given a.job _ (largest (goal.at.Else-cause-ne0 c).After-prices_in_place-prices)
-    a.out.now _ _ c.room_cause.ensures c.lowest_cause-cause.ensures c.if-cause-ne0.false
+    a.out.now _ _ (c.cause.ensures ∙ c.room_cause.ensures) c.lowest_cause-cause.ensures c.if-cause-ne0.false
 
 fitted : (c : Else-cause-ne0) →
     Fitted c.args.job c.prices_in_place-prices.new.discounts c.prices_in_place-prices.new.state_prices
@@ -76,21 +76,3 @@ pub returns : goal.returns
 returns c =
     clauses-answer-memory
     (answers.sheet-put _ _ c.args.out.now _ _ (sym (number_is (goal.at.returns c).After-lowest_cause-cause) ∙ c.if-cause-ne0.false) c.draw-start.ensures)
-
-pub discount_room-discounts-requires : goal.discount_room-discounts-requires
-discount_room-discounts-requires c = tt
-
-pub state_price_room-state_prices-requires : goal.state_price_room-state_prices-requires
-state_price_room-state_prices-requires c = tt
-
-pub prices_in_place-prices-requires : goal.prices_in_place-prices-requires
-prices_in_place-prices-requires c = tt
-
-pub room_cause-requires : goal.room_cause-requires
-room_cause-requires c = tt
-
-pub lowest_cause-cause-requires : goal.lowest_cause-cause-requires
-lowest_cause-cause-requires c = tt
-
-pub refused-requires : goal.refused-requires
-refused-requires c = tt

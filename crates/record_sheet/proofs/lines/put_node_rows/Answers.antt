@@ -3,6 +3,7 @@ use Prim.Native.Nat.{ℕ, suc, ◌+◌, ◌*◌, ◌^◌, ◌≤◌, ◌<◌}
 use lib.ListN.{length, get_or}
 use Rattle.text_laws.specs.Lines.{longest_line}
 use Rattle.lattice.specs.Shape.{row_start, discounts_needed}
+use Rattle.lattice.proofs.TreeEntries.{row-ok}
 use Rattle.sheet_laws.specs.TreeSheet.{nodes_of_row}
 use Rattle.node_lines.proofs.LineLoop.{begun, gone, ended}
 use Rattle.sheet_laws.proofs.PartLaws as laws
@@ -30,6 +31,11 @@ loop-row-init c =
       c.requires.place ∙ needed a.steps a.reversion,
     )
 
+pub unwrap-count-requires : goal.unwrap-count-requires
+unwrap-count-requires c =
+    row-ok _ _ _ _ c.node_count.ensures c.requires.lent.limits.reversion-within-limit
+    (omega (arith, c.loop-row.invariant.0.upto, c.requires.lent.limits.steps-within-limit))
+
 pub loop-row-preserved : goal.loop-row-preserved
 loop-row-preserved c =
     let a = c.args in
@@ -37,8 +43,8 @@ loop-row-preserved c =
     let p = l.invariant.0 in
     let some : 0 < l.row = omega arith in
     let lines = c.node_lines-lines in
-    let put = laws.before-put a.steps a.reversion a.discounts.now c.requires.lent l.row l.place c.node_count-count.result some
-    p.upto c.node_count-count.ensures l.invariant.1 (λ j. (c.type_inv.discounts j).fits) l.out l.start lines.result _ p.enough
+    let put = laws.before-put a.steps a.reversion a.discounts.now c.requires.lent l.row l.place _ some
+    p.upto (rw c.unwrap-count.ensures at c.node_count.ensures) l.invariant.1 (λ j. (c.type_inv.discounts j).fits) l.out l.start lines.result _ p.enough
     (omega (arith, p.below, p.same, c.requires.inside)) (lines.ensures.answer, lines.ensures.memory) in (
       gone (nodes_of_row a.reversion a.discounts.now) (λ (i : ℕ). longest_line * row_start a.reversion i) a.steps
           (fits (goal.at.loop-row-preserved c).Start (λ j. (c.type_inv.discounts j).fits))

@@ -4,11 +4,12 @@ use Prim.Native.Nat.{ℕ, ◌+◌, ◌≤◌, ◌<◌}
 use lib.ListN.{length}
 use Rattle.limits.specs.Limits.{most_steps}
 use Rattle.state_price_bound.specs.ErrorBound.{RowBounds}
+use Rattle.record_sheet.proofs.DrawLaws.{bounds-there}
 use Rattle.sheet_laws.proofs.PartLaws as laws
 use borrow.Author.Rules.{rules}
 use native.Mathlib.Omega.{arith}
 use Rattle.record_sheet.proofs.lines.put_sheet.Goals as goal
-use Rattle.record_sheet.proofs.lines.put_sheet.Goals.{After-state_price_error_bounds-known, Start}
+use Rattle.record_sheet.proofs.lines.put_sheet.Goals.{After-unwrap-bounds, Start}
 
 -- each number of both prices fits a word
 fitting : (c : Start) → laws.Fits c.args.prices.bond × laws.Fits c.args.prices.option
@@ -17,8 +18,11 @@ fitting c = ((search rules, search rules), (search rules, search rules))
 pub put_prices-prices_start-requires : goal.put_prices-prices_start-requires
 put_prices-prices_start-requires c = (omega (arith, c.requires.stored.2), omega arith)
 
+pub unwrap-bounds-requires : goal.unwrap-bounds-requires
+unwrap-bounds-requires c = bounds-there _ _ _ _ c.state_price_error_bounds.ensures c.requires.stored.0.lent
+
 -- a place for each row
-size : (c : After-state_price_error_bounds-known) → length c.state_price_error_bounds-known.result.bounds ≡ most_steps + 1
+size : (c : After-unwrap-bounds) → length c.unwrap-bounds.result ≡ most_steps + 1
 size c = search rules
 
 all-rows : (n : ℕ) (bounds : List ℕ) → n ≤ most_steps → length bounds ≡ most_steps + 1 → n < length bounds
@@ -34,9 +38,9 @@ put_rows-rows_start-requires c =
       stored = (c.requires.stored.0, c.requires.stored.1, room.0, room.1);
       summed = c.requires.summed;
       bounds_value = (
-        ap (λ (r : RowBounds). r.bounds) c.state_price_error_bounds-known.ensures,
-        all-rows a.steps c.state_price_error_bounds-known.result.bounds c.requires.stored.0.lent.limits.steps-within-limit
-            (size (goal.at.put_rows-rows_start-requires c).After-state_price_error_bounds-known),
+        ap (λ (r : RowBounds). r.bounds) (rw c.unwrap-bounds.ensures at c.state_price_error_bounds.ensures),
+        all-rows a.steps c.unwrap-bounds.result c.requires.stored.0.lent.limits.steps-within-limit
+            (size (goal.at.put_rows-rows_start-requires c).After-unwrap-bounds),
       );
     }
 
