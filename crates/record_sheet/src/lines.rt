@@ -53,7 +53,9 @@ fn put_node_rows(
     let mut place = next;
     for row in (0..steps).rev() {
         let count = lattice::node_count(reversion, row).unwrap() as usize;
-        let lines = node_lines::node_lines(out, start, row as u64, discounts, place, count).unwrap();
+        let lines = node_lines::node_lines(
+            out, start, row as u64, discounts, place, count,
+        ).unwrap();
         start = lines.start;
         place = lines.next;
     }

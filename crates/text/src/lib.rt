@@ -162,7 +162,13 @@ fn put_node(out: &mut [u8], end: usize, row: u64, node: i64, discount: u64, rate
 }
 
 // `node ROW NODE DISCOUNT RATE`, with the step rate of the discount. Refused with 6 without room, then with 9 for a discount of 0 or above 1.1.
-pub fn node_line(out: &mut [u8], end: usize, row: u64, node: i64, discount: u64) -> Result<usize, Refusal>
+pub fn node_line(
+    out: &mut [u8],
+    end: usize,
+    row: u64,
+    node: i64,
+    discount: u64,
+) -> Result<usize, Refusal>
     ensures value { placed_of result ≡ place_of (node_number (length out.old) end discount) end (line_of_node row node discount) }
     ensures out_after { out.new ≡ with_text (node_number (length out.old) end discount) out.old end (line_of_node row node discount) }
 {
@@ -172,7 +178,14 @@ pub fn node_line(out: &mut [u8], end: usize, row: u64, node: i64, discount: u64)
 }
 
 // `row ROW QUOTE SUM ALLOWANCE`.
-pub fn row_line(out: &mut [u8], end: usize, row: u64, quote: u64, total: u64, bound: u64) -> Result<usize, Refusal>
+pub fn row_line(
+    out: &mut [u8],
+    end: usize,
+    row: u64,
+    quote: u64,
+    total: u64,
+    bound: u64,
+) -> Result<usize, Refusal>
     ensures value { placed_of result ≡ line_answer out.old end (row_line row quote total bound) }
     ensures out_after { out.new ≡ with_line out.old end (row_line row quote total bound) }
 {
@@ -183,7 +196,13 @@ pub fn row_line(out: &mut [u8], end: usize, row: u64, quote: u64, total: u64, bo
 }
 
 // A word, a price and its error bound.
-fn price_line(out: &mut [u8], end: usize, word: &[u8], price: u64, bound: u64) -> Result<usize, Refusal>
+fn price_line(
+    out: &mut [u8],
+    end: usize,
+    word: &[u8],
+    price: u64,
+    bound: u64,
+) -> Result<usize, Refusal>
     requires { length word.now ≤ 8 }
     ensures value { placed_of result ≡ line_answer out.old end (price_line word.now price bound) }
     ensures out_after { out.new ≡ with_line out.old end (price_line word.now price bound) }
@@ -238,7 +257,13 @@ pub fn whole_line(out: &mut [u8], end: usize, word: &[u8], number: u64) -> Resul
 }
 
 // A word and two whole numbers. A word of more than 16 bytes is refused with 6.
-pub fn pair_line(out: &mut [u8], end: usize, word: &[u8], first: u64, second: u64) -> Result<usize, Refusal>
+pub fn pair_line(
+    out: &mut [u8],
+    end: usize,
+    word: &[u8],
+    first: u64,
+    second: u64,
+) -> Result<usize, Refusal>
     ensures value { placed_of result ≡ word_answer word.now out.old end (pair_line word.now first second) }
     ensures out_after { out.new ≡ with_word word.now out.old end (pair_line word.now first second) }
 {

@@ -1,6 +1,6 @@
 -- A lent buffer into which text is put from its end.
 -- Assumes nothing.
-use Rattle.std.specs.Prelude.{ℕ, ◌+◌, ◌-◌, cond, List, ◌++◌, eqb, length, take, drop, Result, Ok, Err}
+use Rattle.std.specs.Prelude.{ℕ, ◌-◌, cond, List, ◌++◌, eqb, length, take, drop, Result, Ok, Err}
 use Rattle.arithmetic.specs.Answers.{unless_refused}
 use Rattle.arithmetic.specs.Refusals.{number_of}
 use Rattle.arithmetic.specs.declared.Refusal.{Refusal}

@@ -1,10 +1,9 @@
-use Rattle.std.proofs.Common.{◌≡◌, ◌∙◌, ap, length, refl, sym}
+use Rattle.std.proofs.Common.{◌∙◌, ap, length, refl, sym}
 use Rattle.std.proofs.lemmas.Result.{err_from_is_err_and}
 use mir.Facts.{to_z-of_z}
 use Rattle.arithmetic.proofs.RefusalLaws.{refusal-some}
 use Rattle.step_rate.specs.declared.Rate.{Rate}
 use Rattle.step_rate.proofs.RateLaws.{value-back}
-use Rattle.text_laws.specs.Lines.{line_number, node_number}
 use Rattle.text_laws.proofs.LineLaws.{room-known, node-near, node-far, node-refused, node-put}
 use Rattle.text.proofs.node_line.Goals as goal
 use Rattle.text.proofs.node_line.Goals.{In_ok-line_cause}
