@@ -27,7 +27,8 @@ room c =
 
 pub put_bounded-total_start-requires : goal.put_bounded-total_start-requires
 put_bounded-total_start-requires c =
-    (omega (arith, (room (goal.at.put_bounded-total_start-requires c).In_ok-line_cause).0), (room (goal.at.put_bounded-total_start-requires c).In_ok-line_cause).1)
+    let r = room (goal.at.put_bounded-total_start-requires c).In_ok-line_cause in
+    (omega (arith, r.0), r.1)
 
 total-put : (c : After-put_bounded-total_start) →
     (75 ≤ c.put_bounded-total_start.result) × (c.put_bounded-total_start.result ≤ length c.put_bounded-total_start.new.out)
