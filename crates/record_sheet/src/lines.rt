@@ -53,7 +53,9 @@ fn put_node_rows(
     let mut place = next;
     for row in (0..steps).rev() {
         let count = lattice::node_count(reversion, row).unwrap() as usize;
-        let lines = node_lines::node_lines(out, start, row as u64, discounts, place, count);
+        let lines = node_lines::node_lines(
+            out, start, row as u64, discounts, place, count,
+        ).unwrap();
         start = lines.start;
         place = lines.next;
     }
@@ -123,8 +125,7 @@ fn put_row<'a>(
         state_prices,
     );
     let sum = row_total(part);
-    let line = text::row_line(out, end, number as u64, quotes[before], sum, row.bound);
-    line.start
+    text::row_line(out, end, number as u64, quotes[before], sum, row.bound).unwrap()
 }
 
 // The lines of rows 1 to n, the last first.
@@ -162,8 +163,7 @@ fn put_prices(out: &mut [u8], end: usize, bond: Price, present: bool, option: Pr
     ensures { Put out.old end (price_lines bond present option) result out.new }
 {
     let below = put_option(out, end, present, option);
-    let line = text::bond_line(out, below, bond.value, bond.bound);
-    line.start
+    text::bond_line(out, below, bond.value, bond.bound).unwrap()
 }
 
 fn put_option(out: &mut [u8], end: usize, present: bool, option: Price) -> usize
@@ -171,8 +171,7 @@ fn put_option(out: &mut [u8], end: usize, present: bool, option: Price) -> usize
     ensures { Put out.old end (option_lines present option) result out.new }
 {
     if present {
-        let line = text::option_line(out, end, option.value, option.bound);
-        return line.start;
+        return text::option_line(out, end, option.value, option.bound).unwrap();
     }
     end
 }

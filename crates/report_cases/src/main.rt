@@ -20,18 +20,21 @@ fn write_from(room: &[u8], start: usize) {
 }
 
 fn write_whole(room: &mut [u8], word: &[u8], number: u64) {
-    let line = text::whole_line(room, room.len(), word, number);
-    write_from(room, line.start);
+    if let Ok(start) = text::whole_line(room, room.len(), word, number) {
+        write_from(room, start);
+    }
 }
 
 fn write_pair(room: &mut [u8], word: &[u8], first: u64, second: u64) {
-    let line = text::pair_line(room, room.len(), word, first, second);
-    write_from(room, line.start);
+    if let Ok(start) = text::pair_line(room, room.len(), word, first, second) {
+        write_from(room, start);
+    }
 }
 
 fn write_amount(room: &mut [u8], word: &[u8], value: u64) {
-    let line = text::amount_line(room, room.len(), word, value);
-    write_from(room, line.start);
+    if let Ok(start) = text::amount_line(room, room.len(), word, value) {
+        write_from(room, start);
+    }
 }
 
 fn write_refusals(room: &mut [u8], counts: [u64; 13]) {

@@ -3,9 +3,7 @@
 #![tactic(auto)]
 
 fn write_sheet(job: &[u8], room: &mut [u8]) {
-    let sheet = job_sheet::printed(job, room);
-    if sheet.number == 0 {
-        let start = sheet.start;
+    if let Ok(start) = job_sheet::printed(job, room) {
         io::write_all(1, &room[start..]);
     }
 }

@@ -7,11 +7,11 @@ use Rattle.text_laws.specs.Lines.{line_of_node, longest_line}
 use Rattle.text_laws.specs.inside.Put.{Put}
 use Rattle.node_lines.specs.Rows.{node_text, lines}
 use Rattle.node_lines.specs.Reading.{nodes_before}
-use Rattle.node_lines.proofs.RowLaws.{discount-read, line-room}
+use Rattle.node_lines.proofs.RowLaws.{discount-read, node-there, line-room}
 use Rattle.node_lines.proofs.LineLoop.{begun, gone, ended}
 use Rattle.node_lines.proofs.ReadingLaws.{before-length, before_text, before-discount, drawn-whole}
 use Rattle.node_lines.proofs.put_row_nodes.Goals as goal
-use Rattle.node_lines.proofs.put_row_nodes.Goals.{After-node_at-node, Start}
+use Rattle.node_lines.proofs.put_row_nodes.Goals.{After-unwrap-discount, Start}
 
 clauses-answer-memory : {A B : Type 0} → A × B → record { answer : A; memory : B }
 clauses-answer-memory w = record { answer = w.0; memory = w.1 }
@@ -32,12 +32,15 @@ loop-index-init c =
     let a = c.args in
     begun _ (λ (i : ℕ). longest_line * i) a.count (fits (goal.at.loop-index-init c).Start (λ k. (c.type_inv.discounts k).fits)) a.out.now a.end c.requires.room
 
-read : (c : After-node_at-node) → let a = c.args in
-    c.node_at-node.result.discount ≡ get_or a.discounts.now (a.next - a.count + (c.loop-index.index - 1)) 0
+pub unwrap-discount-requires : goal.unwrap-discount-requires
+unwrap-discount-requires c = node-there _ _ c.node_at.result c.node_at.ensures (omega arith)
+
+read : (c : After-unwrap-discount) → let a = c.args in
+    c.unwrap-discount.result ≡ get_or a.discounts.now (a.next - a.count + (c.loop-index.index - 1)) 0
 read c =
     let a = c.args in
     let within : a.next - a.count + (c.loop-index.index - 1) < length a.discounts.now = omega arith in
-    discount-read a.discounts.now (a.next - a.count + (c.loop-index.index - 1)) c.node_at-node.result c.node_at-node.ensures within
+    discount-read a.discounts.now (a.next - a.count + (c.loop-index.index - 1)) _ (rw c.unwrap-discount.ensures at c.node_at.ensures) within
 
 pub put_node_line-start-requires : goal.put_node_line-start-requires
 put_node_line-start-requires c =
@@ -46,7 +49,7 @@ put_node_line-start-requires c =
     let p = l.invariant in
     let discount = before-discount a.discounts.now a.next a.count c.requires.standing c.requires.next-within c.requires.accepted (l.index - 1)
     (omega (arith, p.upto)) in
-    let same = read (goal.at.put_node_line-start-requires c).After-node_at-node in (
+    let same = read (goal.at.put_node_line-start-requires c).After-unwrap-discount in (
       omega (arith, c.requires.within-row),
       omega (arith, c.requires.within-row, p.upto),
       omega (arith, same, discount.0),
@@ -61,7 +64,7 @@ loop-index-preserved c =
     let l = c.loop-index in
     let p = l.invariant in
     let some : 0 < l.index = omega arith in
-    let text = ap (λ (d : ℕ). line_of_node a.row (node_of_index (a.count / 2) (l.index - 1)) d) (read (goal.at.loop-index-preserved c).After-node_at-node)
+    let text = ap (λ (d : ℕ). line_of_node a.row (node_of_index (a.count / 2) (l.index - 1)) d) (read (goal.at.loop-index-preserved c).After-unwrap-discount)
     ∙ before_text a.discounts.now a.next a.count c.requires.standing c.requires.next-within a.row (l.index - 1) (omega (arith, p.upto)) in
     gone _ (λ (i : ℕ). longest_line * i) a.count (fits (goal.at.loop-index-preserved c).Start (λ k. (c.type_inv.discounts k).fits)) a.out.now a.end p some
     (rw text at c.put_node_line-start.ensures)

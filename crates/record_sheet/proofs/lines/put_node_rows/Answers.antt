@@ -36,16 +36,25 @@ unwrap-count-requires c =
     row-ok _ _ _ _ c.node_count.ensures c.requires.lent.limits.reversion-within-limit
     (omega (arith, c.loop-row.invariant.0.upto, c.requires.lent.limits.steps-within-limit))
 
+pub unwrap-lines-requires : goal.unwrap-lines-requires
+unwrap-lines-requires c =
+    let a = c.args in
+    let l = c.loop-row in
+    let p = l.invariant.0 in
+    let some : 0 < l.row = omega arith in
+    laws.before-ok a.steps a.reversion a.discounts.now c.requires.lent l.row l.place _ some
+    p.upto (rw c.unwrap-count.ensures at c.node_count.ensures) l.invariant.1 l.out l.start c.node_lines.result p.enough
+    (omega (arith, p.below, p.same, c.requires.inside)) (c.node_lines.ensures.answer, c.node_lines.ensures.memory)
+
 pub loop-row-preserved : goal.loop-row-preserved
 loop-row-preserved c =
     let a = c.args in
     let l = c.loop-row in
     let p = l.invariant.0 in
     let some : 0 < l.row = omega arith in
-    let lines = c.node_lines-lines in
     let put = laws.before-put a.steps a.reversion a.discounts.now c.requires.lent l.row l.place _ some
-    p.upto (rw c.unwrap-count.ensures at c.node_count.ensures) l.invariant.1 (λ j. (c.type_inv.discounts j).fits) l.out l.start lines.result _ p.enough
-    (omega (arith, p.below, p.same, c.requires.inside)) (lines.ensures.answer, lines.ensures.memory) in (
+    p.upto (rw c.unwrap-count.ensures at c.node_count.ensures) l.invariant.1 (λ j. (c.type_inv.discounts j).fits) l.out l.start _ _ p.enough
+    (omega (arith, p.below, p.same, c.requires.inside)) (rw c.unwrap-lines.ensures at c.node_lines.ensures.answer, c.node_lines.ensures.memory) in (
       gone (nodes_of_row a.reversion a.discounts.now) (λ (i : ℕ). longest_line * row_start a.reversion i) a.steps
           (fits (goal.at.loop-row-preserved c).Start (λ j. (c.type_inv.discounts j).fits))
           a.out.now a.end p some put.0,

@@ -5,6 +5,7 @@ use Rattle.lent_tree.specs.LentTree.{stored_row}
 use Rattle.arithmetic.specs.Row.{sum_of}
 use Rattle.row_view.specs.declared.RowKind.TheVariants.{StatePrices}
 use native.Mathlib.Numerals.{add-one}
+use Rattle.text_laws.proofs.LineLaws.{line-ok}
 use Rattle.sheet_laws.proofs.PartLaws as laws
 use Rattle.arithmetic.proofs.ListSums.{sum-listed}
 use borrow.Author.Rules.{rules}
@@ -31,6 +32,11 @@ total-is : (c : After-row_total-sum) →
     c.row_total-sum.result ≡ sum_of (stored_row a.tree.reversion a.state_prices.now (suc a.row.before))
 total-is c = c.row_total-sum.ensures ∙ sum-listed _ ∙ ap sum_of (part-is (goal.at.After-row_total-sum c).After-row_view-part)
 
+pub unwrap-requires : goal.unwrap-requires
+unwrap-requires c =
+    let pre = c.requires.before_lt_steps in
+    line-ok _ _ _ c.row_line.result pre.4 pre.5 (c.row_line.ensures.value, c.row_line.ensures.out_after)
+
 pub returns : goal.returns
 returns c =
     let a = c.args in
@@ -39,4 +45,4 @@ returns c =
     c.row_total-sum.result a.out.now _ a.row.bound (total-is (goal.at.returns c).After-row_total-sum) pre.bound_value
     (omega (arith, pre.before_lt_steps.0, pre.before_lt_steps.1.lent.limits.steps-within-limit))
     (c.type_inv.quotes a.row.before).fits (search rules) pre.before_lt_steps.4 pre.before_lt_steps.5
-    (c.row_line-line.ensures.value, c.row_line-line.ensures.out_after)
+    (rw c.unwrap.ensures at c.row_line.ensures.value, c.row_line.ensures.out_after)

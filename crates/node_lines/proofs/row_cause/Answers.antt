@@ -7,8 +7,8 @@ use Rattle.node_lines.specs.Rows.{is_row, has_room_for, accepted_nodes}
 use Rattle.node_lines.specs.Reading.{stand_before, nodes_before}
 use Rattle.node_lines.proofs.RowLaws.{accepted-found}
 use Rattle.node_lines.proofs.ReadingLaws.{stand-known, before_lent, read_none, read-no-row, read_short, read-judged}
-use Rattle.node_lines.proofs.row_number.Goals as goal
-use Rattle.node_lines.proofs.row_number.Goals.{After-all_between, Else-not-has_room, Else-not-is_row, Else-not-stand_before}
+use Rattle.node_lines.proofs.row_cause.Goals as goal
+use Rattle.node_lines.proofs.row_cause.Goals.{After-all_between, Else-not-has_room, Else-not-is_row, Else-not-stand_before}
 
 pub returns-then-not-stand_before : goal.returns-then-not-stand_before
 returns-then-not-stand_before c =

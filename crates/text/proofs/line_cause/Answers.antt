@@ -1,6 +1,6 @@
 use native.Mathlib.Omega.{arith}
 use Rattle.text_laws.proofs.LineLaws.{number-near, number-outside, number-none}
-use Rattle.text.proofs.line_number.Goals as goal
+use Rattle.text.proofs.line_cause.Goals as goal
 
 pub returns-then-end-lt-LONGEST_LINE : goal.returns-then-end-lt-LONGEST_LINE
 returns-then-end-lt-LONGEST_LINE c =
