@@ -53,9 +53,12 @@ class Cases(unittest.TestCase):
     def test_the_tables_of_quotes(self):
         """What the script prints as tables stands in the program, whatever its layout."""
         made = subprocess.run([sys.executable, '-B', ROOT / 'crates/quote_cases/vectors.py', 'tables'], check=True, capture_output=True, text=True).stdout
-        program = ''.join((ROOT / 'crates/quote_cases/src/main.rt').read_text(encoding='utf-8').split()).replace(',]', ']')
+        def words(text):
+            return ''.join(text.split()).replace(',]', ']').replace(',)', ')')
+
+        program = words((ROOT / 'crates/quote_cases/src/main.rt').read_text(encoding='utf-8'))
         for table in filter(str.strip, made.split('\n\n')):
-            self.assertIn(''.join(table.split()).replace(',]', ']'), program)
+            self.assertIn(words(table), program)
 
 
 if __name__ == '__main__':

@@ -126,28 +126,18 @@ def told(answer):
     return f"refused {answer[0]}" if answer[0] else str(answer[1])
 
 
-def table(name, kind, items, spell=str):
-    print(f"const {name}: [{kind}; {len(items)}] = [")
-    for item in items:
-        print(f"    {spell(item)},")
+def table(name, kind, rows):
+    print(f"const {name}: [{kind}; {len(rows)}] = [")
+    for row in rows:
+        print(f"    ({', '.join(row)}),")
     print("];\n")
 
 
 spell_hex = lambda x: f"0x{x:016X}"
 if sys.argv[1:] == ["tables"]:
-    table("PATTERNS", "u64", PATTERNS, spell_hex)
-    table("FREQUENCIES", "u64", [p[0] for p in POINTS])
-    table("KINDS", "u8", [p[1] for p in POINTS])
-    table("ROWS", "u64", [p[2] for p in POINTS])
-    table("FIGURES", "u64", [pattern(p[3]) for p in POINTS], spell_hex)
-    table("DISCOUNTS", "u64", DISCOUNTS)
-    table("CURVE_FREQUENCIES", "u64", [c[0] for c in CURVES])
-    table("CURVE_STEPS", "usize", [c[1] for c in CURVES])
-    table("LAST_ROWS", "u64", [c[2] for c in CURVES])
-    table("FIRST_KINDS", "u8", [c[3] for c in CURVES])
-    table("FIRST_FIGURES", "u64", [c[4] for c in CURVES], spell_hex)
-    table("KINDS_LENT", "usize", [c[5] for c in CURVES])
-    table("PLACES_LENT", "usize", [c[6] for c in CURVES])
+    lines = zip(PATTERNS, POINTS, DISCOUNTS)
+    table("LINES", "Line", [(spell_hex(bits), str(f), str(k), str(t), spell_hex(pattern(x)), str(v)) for bits, (f, k, t, x), v in lines])
+    table("CURVES", "Curve", [(str(f), str(n), str(last), str(k), spell_hex(bits), str(kinds), str(room)) for f, n, last, k, bits, kinds, room in CURVES])
 else:
     assert len(PATTERNS) == len(POINTS) == len(DISCOUNTS) == 64 and len(CURVES) == 20
     for bits, (f, k, t, x), v in zip(PATTERNS, POINTS, DISCOUNTS):

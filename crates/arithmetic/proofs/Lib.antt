@@ -12,3 +12,5 @@ pub mod CauseLaws
 pub mod BetweenLaws
 pub mod PartLaws
 pub mod PaddedLaws
+pub mod RefusalLaws
+pub mod ListSums

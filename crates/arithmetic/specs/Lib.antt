@@ -5,3 +5,4 @@ pub mod Power
 pub mod Answers
 pub mod Frequency
 pub mod Within
+pub mod Refusals

@@ -8,6 +8,7 @@
 ghost use Rattle.std.specs.Prelude.{◌+◌, ◌≤◌, length};
 
 use bands::Verdict;
+use lending::Worth;
 
 const HEAD: usize = 6;
 
@@ -24,19 +25,6 @@ fn show_verdict(verdict: Verdict) {
     io::write_all(1, b"\n");
 }
 
-fn two_bytes(high: u8, low: u8) -> u64
-    ensures { result ≤ 65535 }
-{
-    high as u64 * 256 + low as u64
-}
-
-fn four_bytes(bytes: &[u8], at: usize) -> u64
-    requires { at + 4 ≤ length bytes.now }
-    ensures { result ≤ 4294967295 }
-{
-    two_bytes(bytes[at], bytes[at + 1]) * 65536 + two_bytes(bytes[at + 2], bytes[at + 3])
-}
-
 // The number at a place, or 0 where the bytes end before it does.
 fn number_at(bytes: &[u8], at: usize) -> u64 {
     if bytes.len() < 8 {
@@ -45,16 +33,16 @@ fn number_at(bytes: &[u8], at: usize) -> u64 {
     if bytes.len() - 8 < at {
         return 0;
     }
-    four_bytes(bytes, at) * 4294967296 + four_bytes(bytes, at + 4)
+    let mut eight = [0u8; 8];
+    eight.copy_from_slice(&bytes[at..at + 8]);
+    u64::from_be_bytes(eight)
 }
 
 fn read_numbers(bytes: &[u8], numbers: &mut [u64])
     requires { length numbers.old ≤ 320 }
 {
-    let mut k = 0usize;
-    while k < numbers.len() {
-        numbers[k] = number_at(bytes, 8 * k);
-        k += 1;
+    for (k, number) in numbers.iter_mut().enumerate() {
+        *number = number_at(bytes, 8 * k);
     }
 }
 
@@ -88,7 +76,9 @@ fn show_worth(
     row: u64,
     price: u64,
 ) {
-    let answer = lending::lending_worth(firsts, lasts, lowests, highests, haircuts, row, price);
+    let answer = Worth::from(lending::lending_worth(
+        firsts, lasts, lowests, highests, haircuts, row, price,
+    ));
     io::write_all(1, b"worth");
     show(answer.worth);
     show_verdict(answer.verdict);
@@ -106,12 +96,8 @@ fn show_worths(
     if rows.len() != prices.len() {
         return;
     }
-    let mut k = 0usize;
-    while k < rows.len() {
-        show_worth(
-            firsts, lasts, lowests, highests, haircuts, rows[k], prices[k],
-        );
-        k += 1;
+    for (row, price) in rows.iter().zip(prices) {
+        show_worth(firsts, lasts, lowests, highests, haircuts, *row, *price);
     }
 }
 
@@ -132,7 +118,7 @@ fn show_table(bytes: &[u8]) {
     let rows = numbers_from(&numbers, rows_at, pairs);
     let prices = numbers_from(&numbers, rows_at + pairs, pairs);
     io::write_all(1, b"table");
-    show_verdict(bands::check_bands(firsts, lasts, lowests, highests, haircuts));
+    show_verdict(Verdict::from(bands::check_bands(firsts, lasts, lowests, highests, haircuts)));
     show_worths(firsts, lasts, lowests, highests, haircuts, rows, prices);
 }
 
@@ -151,13 +137,11 @@ fn show_next(input: &[u8], at: usize) -> usize {
 // There are fewer frames than bytes.
 fn show_all(input: &[u8]) {
     let mut at = 0usize;
-    let mut left = input.len();
-    while 0 < left {
+    for _ in 0..input.len() {
         at = show_next(input, at);
         if at == 0 {
             return;
         }
-        left -= 1;
     }
 }
 

@@ -4,3 +4,4 @@ pub mod TestLaws
 pub mod VerdictLaws
 pub mod SoundLaws
 pub mod Meaning
+pub mod FaultLaws

@@ -2,13 +2,16 @@
 // A table is five slices of one length: first rows, last rows, lowest prices, highest prices, haircuts.
 #![tactic(auto)]
 
-ghost use Rattle.std.specs.Prelude.{◌≡◌, ◌+◌, ◌<◌, ◌≤◌, length};
+ghost use Rattle.std.specs.Prelude.{◌≡◌, ◌+◌, ◌<◌, ◌≤◌, length, MatchOption};
 ghost use Rattle.arithmetic.specs.Row.{values};
-ghost use Rattle.limits.specs.Limits.{value_limit};
+ghost use Rattle.limits.specs.Limits.{most_steps, value_limit};
 ghost use Rattle.bands.specs.Bands.{sound, bands_of, bad_index, failing_price, failing_row, pairs_verdict, same_lengths, verdict};
+ghost use Rattle.bands.specs.Faults.{fault_verdict, result_verdict};
 ghost use Rattle.bands.specs.inside.Lists.{Parallel};
 ghost use Rattle.bands.specs.Stops.{Added};
 ghost use Rattle.bands.specs.inside.Stops.{StopAt};
+
+use arithmetic::Refusal;
 
 // The price after the highest.
 const END: u64 = limits::VALUE_LIMIT + 1;
@@ -24,8 +27,18 @@ const TOO_MANY: u64 = MOST_BANDS as u64 + 1;
 // All of a price, in ten-thousandths.
 pub const MOST_HAIRCUT: u64 = 10_000;
 
-// The answer to a table: 0 where it is accepted, else the number of the refusal, with the first failing pair (17 in no band,
-// 18 in two or more) or the place of the first bad band, counted from 1 (16; 41 where only the number of bands is wrong).
+// Why a table is not accepted: a refusal that no band decides; the place of the first bad band, counted from 1 (41 where only the number of
+// bands is wrong); or the first failing pair, which is in no band or in several.
+#[derive(Clone, Copy, Debug, PartialEq, Eq)]
+pub enum Fault {
+    Refused(Refusal),
+    BadBand(u64),
+    NoBand { row: u64, price: u64 },
+    SeveralBands { row: u64, price: u64 },
+}
+
+// The answer to a table as C sees it: 0 where it is accepted, else the number of the refusal, with the first failing pair (17 in no band,
+// 18 in two or more) or the place of the first bad band (16).
 #[repr(C)]
 #[derive(Drop)]
 pub struct Verdict {
@@ -33,6 +46,55 @@ pub struct Verdict {
     pub row: u64,
     pub price: u64,
     pub place: u64,
+}
+
+impl From<Fault> for Verdict {
+    ghost from_gives = { λ fault verdict. verdict ≡ fault_verdict fault };
+
+    fn from(fault: Fault) -> Verdict {
+        match fault {
+            Fault::Refused(refusal) => Verdict {
+                number: refusal.number(),
+                row: 0,
+                price: 0,
+                place: 0,
+            },
+            Fault::BadBand(place) => Verdict {
+                number: 16,
+                row: 0,
+                price: 0,
+                place,
+            },
+            Fault::NoBand { row, price } => Verdict {
+                number: 17,
+                row,
+                price,
+                place: 0,
+            },
+            Fault::SeveralBands { row, price } => Verdict {
+                number: 18,
+                row,
+                price,
+                place: 0,
+            },
+        }
+    }
+}
+
+impl From<Result<(), Fault>> for Verdict {
+    ghost from_gives = { λ outcome verdict. verdict ≡ result_verdict outcome };
+
+    fn from(outcome: Result<(), Fault>) -> Verdict {
+        match outcome {
+            Ok(()) => Verdict {
+                number: 0,
+                row: 0,
+                price: 0,
+                place: 0,
+            },
+            Err(fault) => Verdict::from(fault),
+        }
+    }
 }
 
 // How many bands contain a price of a row, and the next price at which that may change.
@@ -94,9 +156,8 @@ fn stop_at(
         covering: 0,
         next: END,
     };
-    let mut k = 0usize;
-    while k < firsts.len() {
-        let more = add_band(
+    for k in 0..firsts.len() {
+        stop = add_band(
             stop,
             firsts[k],
             lasts[k],
@@ -105,77 +166,75 @@ fn stop_at(
             row,
             price,
         );
-        stop = more;
-        k += 1;
     }
     stop
 }
 
-// The lowest price of a row that is in no band or in several, or END. Between two stops the number of bands that contain a price
-// does not change, so that only the stops are looked at.
-fn failing_price(firsts: &[u64], lasts: &[u64], lowests: &[u64], highests: &[u64], row: u64) -> u64
+// The lowest price of a row that is in no band or in several, if there is one. Between two stops the number of bands that contain a price
+// does not change, so that only the stops are looked at. Inside its one caller the walk takes a tenth longer.
+#[inline(never)]
+fn failing_price(
+    firsts: &[u64],
+    lasts: &[u64],
+    lowests: &[u64],
+    highests: &[u64],
+    row: u64,
+) -> Option<u64>
     requires { Parallel firsts.now lasts.now lowests.now highests.now }
-    ensures { result ≡ failing_price (bands_of firsts.now lasts.now lowests.now highests.now) row }
+    ensures { MatchOption result (value_limit + 1 ≡ failing_price (bands_of firsts.now lasts.now lowests.now highests.now) row)
+        (λ price. (price ≡ failing_price (bands_of firsts.now lasts.now lowests.now highests.now) row) × (price ≤ value_limit)) }
 {
     let mut price = 0u64;
     while price < END {
         let stop = stop_at(firsts, lasts, lowests, highests, row, price);
         let covering = stop.covering;
         if covering != 1 {
-            return price;
+            return Some(price);
         }
         price = stop.next;
     }
-    END
+    None
 }
 
-// The first row with a failing price, or 61.
-fn failing_row(firsts: &[u64], lasts: &[u64], lowests: &[u64], highests: &[u64]) -> u64
+// The first row with a failing price, and its lowest, if there is one.
+fn failing_pair(
+    firsts: &[u64],
+    lasts: &[u64],
+    lowests: &[u64],
+    highests: &[u64],
+) -> Option<(u64, u64)>
     requires { Parallel firsts.now lasts.now lowests.now highests.now }
-    ensures { result ≡ failing_row (bands_of firsts.now lasts.now lowests.now highests.now) }
+    ensures { MatchOption result (most_steps + 1 ≡ failing_row (bands_of firsts.now lasts.now lowests.now highests.now))
+        (λ pair. (pair.0 ≡ failing_row (bands_of firsts.now lasts.now lowests.now highests.now)) × (pair.0 ≤ most_steps)
+        × (pair.1 ≡ failing_price (bands_of firsts.now lasts.now lowests.now highests.now) pair.0)) }
 {
-    let mut row = 1u64;
-    while row <= LAST_ROW {
-        let price = failing_price(firsts, lasts, lowests, highests, row);
-        if price <= limits::VALUE_LIMIT {
-            return row;
+    for row in 1..LAST_ROW + 1 {
+        if let Some(price) = failing_price(firsts, lasts, lowests, highests, row) {
+            return Some((row, price));
         }
-        row += 1;
     }
-    row
+    None
 }
 
-// The verdict on the pairs: 17 or 18 with the first failing pair, or zeros.
-fn judge_pairs(firsts: &[u64], lasts: &[u64], lowests: &[u64], highests: &[u64]) -> Verdict
+// The verdict on the pairs.
+fn judge_pairs(
+    firsts: &[u64],
+    lasts: &[u64],
+    lowests: &[u64],
+    highests: &[u64],
+) -> Result<(), Fault>
     requires { Parallel firsts.now lasts.now lowests.now highests.now }
-    ensures { result ≡ pairs_verdict (bands_of firsts.now lasts.now lowests.now highests.now) }
+    ensures { result_verdict result ≡ pairs_verdict (bands_of firsts.now lasts.now lowests.now highests.now) }
 {
-    let row = failing_row(firsts, lasts, lowests, highests);
-    if LAST_ROW < row {
-        return Verdict {
-            number: 0,
-            row: 0,
-            price: 0,
-            place: 0,
-        };
-    }
-    let price = failing_price(firsts, lasts, lowests, highests, row);
+    let Some((row, price)) = failing_pair(firsts, lasts, lowests, highests) else {
+        return Ok(());
+    };
     let stop = stop_at(firsts, lasts, lowests, highests, row, price);
     let covering = stop.covering;
     if covering == 0 {
-        return Verdict {
-            number: 17,
-            row,
-            price,
-            place: 0,
-        };
+        return Err(Fault::NoBand { row, price });
     }
-    Verdict {
-        number: 18,
-        row,
-        price,
-        place: 0,
-    }
+    Err(Fault::SeveralBands { row, price })
 }
 
 // Whether a band's ends are in order and in range, and its haircut in range.
@@ -203,26 +262,24 @@ fn is_sound(first: u64, last: u64, lowest: u64, highest: u64, haircut: u64) -> b
     true
 }
 
-// The index of the first bad band, or the number of bands.
+// The index of the first bad band, if there is one.
 fn first_bad(
     firsts: &[u64],
     lasts: &[u64],
     lowests: &[u64],
     highests: &[u64],
     haircuts: &[u64],
-) -> usize
+) -> Option<usize>
     requires { Parallel firsts.now lasts.now lowests.now highests.now × (length haircuts.now ≡ length firsts.now) }
-    ensures { result ≡ bad_index (bands_of firsts.now lasts.now lowests.now highests.now)
-        (values haircuts.now) }
+    ensures { MatchOption result (length firsts.now ≡ bad_index (bands_of firsts.now lasts.now lowests.now highests.now) (values haircuts.now))
+        (λ k. (k ≡ bad_index (bands_of firsts.now lasts.now lowests.now highests.now) (values haircuts.now)) × (k < length firsts.now)) }
 {
-    let mut k = 0usize;
-    while k < firsts.len() {
+    for k in 0..firsts.len() {
         if !is_sound(firsts[k], lasts[k], lowests[k], highests[k], haircuts[k]) {
-            return k;
+            return Some(k);
         }
-        k += 1;
     }
-    k
+    None
 }
 
 // Whether the five slices have one length.
@@ -259,33 +316,17 @@ pub fn check_bands(
     lowests: &[u64],
     highests: &[u64],
     haircuts: &[u64],
-) -> Verdict
-    ensures { result ≡ verdict firsts.now lasts.now lowests.now highests.now haircuts.now }
+) -> Result<(), Fault>
+    ensures { result_verdict result ≡ verdict firsts.now lasts.now lowests.now highests.now haircuts.now }
 {
     if !have_one_length(firsts, lasts, lowests, highests, haircuts) {
-        return Verdict {
-            number: 6,
-            row: 0,
-            price: 0,
-            place: 0,
-        };
+        return Err(Fault::Refused(Refusal::LengthOrRow));
     }
-    let bad = first_bad(firsts, lasts, lowests, highests, haircuts);
-    if bad < firsts.len() {
-        return Verdict {
-            number: 16,
-            row: 0,
-            price: 0,
-            place: (bad + 1) as u64,
-        };
+    if let Some(k) = first_bad(firsts, lasts, lowests, highests, haircuts) {
+        return Err(Fault::BadBand((k + 1) as u64));
     }
     if MOST_BANDS < firsts.len() {
-        return Verdict {
-            number: 16,
-            row: 0,
-            price: 0,
-            place: TOO_MANY,
-        };
+        return Err(Fault::BadBand(TOO_MANY));
     }
     judge_pairs(firsts, lasts, lowests, highests)
 }

@@ -56,15 +56,12 @@ fn read_book(buffer: &mut [u8]) -> Book
     let mut discounts = limits::discount_room();
     let mut state_prices = limits::state_price_room();
     let mut book = book_fields::empty();
-    let mut left = book_laws::MOST_FIELDS;
-    while left > 0 {
+    for _ in 0..book_laws::MOST_FIELDS {
         let step = next_field(book, buffer, &mut discounts, &mut state_prices);
-        let next = step.book;
+        book = step.book;
         if !step.more {
-            return next;
+            return book;
         }
-        book = next;
-        left -= 1;
     }
     let mut last = [0u8; 1];
     let count = io::read_full(0, &mut last);

@@ -23,13 +23,11 @@ fn write_next(input: &[u8], at: usize, room: &mut [u8]) -> usize {
 // There are fewer frames than bytes.
 fn write_all(input: &[u8], room: &mut [u8]) {
     let mut at = 0usize;
-    let mut left = input.len();
-    while 0 < left {
+    for _ in 0..input.len() {
         at = write_next(input, at, room);
         if at == 0 {
             return;
         }
-        left -= 1;
     }
 }
 

@@ -85,14 +85,8 @@ fn with_refused(book: Book, number: u64) -> Book
     let counts = counted(former, number);
     Book {
         fields: book.fields + 1,
-        ended: book.ended,
-        priced: book.priced,
         refused: counts,
-        bonds: book.bonds,
-        options: book.options,
-        error_bounds: book.error_bounds,
-        dearest: book.dearest,
-        place: book.place,
+        ..book
     }
 }
 
@@ -100,19 +94,17 @@ fn with_priced(book: Book, prices: JobPrices) -> Book
     requires { (is_open book ≡ true) × Bounded prices }
     ensures { result ≡ with_priced book prices }
 {
-    let counts = book.refused;
     let dearer = is_dearer(book, prices.bond.value);
     let place = book.fields + 1;
     Book {
         fields: place,
-        ended: book.ended,
         priced: book.priced + 1,
-        refused: counts,
         bonds: book.bonds + prices.bond.value,
         options: book.options + option_of(prices),
         error_bounds: book.error_bounds + prices.bond.bound,
         dearest: chosen(dearer, prices.bond.value, book.dearest),
         place: chosen(dearer, place, book.place),
+        ..book
     }
 }
 
@@ -135,14 +127,8 @@ pub(crate) fn ended(book: Book) -> Book
     let former = book.refused;
     let counts = counted(former, 1);
     Book {
-        fields: book.fields,
         ended: true,
-        priced: book.priced,
         refused: counts,
-        bonds: book.bonds,
-        options: book.options,
-        error_bounds: book.error_bounds,
-        dearest: book.dearest,
-        place: book.place,
+        ..book
     }
 }

@@ -78,7 +78,8 @@ limit-most value = chosen-most (ltb value_limit value) 12 0 most_number (omega a
 memory-most : (n b discounts prices : ℕ) → memory_cause n b discounts prices ≤ most_number
 unfolding memory_cause
 memory-most n b discounts prices =
-    chosen-most (leb (discounts_needed_answer n b).value discounts && leb (state_prices_needed_answer n b).value prices) 0 6 most_number (omega arith) (omega arith)
+    chosen-most (leb (discounts_needed_answer n b).value discounts && leb (state_prices_needed_answer n b).value prices) 0 6 most_number (omega arith)
+    (omega arith)
 
 curve-most : (f n : ℕ) (rows kinds : List ℕ) (figures : List Float) (room : ℕ) → curve_number f n rows kinds figures room ≤ most_number
 unfolding curve_number

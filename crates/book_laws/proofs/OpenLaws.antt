@@ -145,7 +145,8 @@ module _ (b : Book) (job : List ℕ) where
         go true = refl
         go false = refl
 
-    pub memory-added : is_open b ≡ true → b.fields < most_fields → bytes_memory job most_discounts most_state_prices rows memory ≡ field_memory b job rows memory
+    pub memory-added : is_open b ≡ true → b.fields < most_fields →
+        bytes_memory job most_discounts most_state_prices rows memory ≡ field_memory b job rows memory
     unfolding field_memory
     memory-added h l = rw (h, lt-ltb b.fields most_fields l)
 

@@ -7,12 +7,15 @@ use native.Mathlib.Omega.{arith}
 use borrow.Author.Tests.{lt-ltb, le-ltb}
 use lib.ListN.{length, length-append}
 use Rattle.arithmetic.specs.Row.{values}
-use Rattle.text_laws.specs.declared.Placed.{Placed}
+use Rattle.std.specs.Prelude.{Result}
+use Rattle.std.specs.Result.{IsOk}
+use Rattle.arithmetic.specs.declared.Refusal.{Refusal}
+use Rattle.text_laws.specs.Put.{Placed, placed_of}
 use Rattle.text_laws.specs.inside.Put.{Put}
 use Rattle.text_laws.specs.Lines.{refused_word, longest_line}
 use Rattle.text_laws.specs.WordLines.{whole_line, pair_line, amount_line, word_number}
 use Rattle.text_laws.proofs.PutLaws.{put-none, put-before, Answered}
-use Rattle.text_laws.proofs.WordLineLaws.{whole_room, pair-room, amount-room, word_stands, word-before}
+use Rattle.text_laws.proofs.WordLineLaws.{whole_room, pair-room, amount-room, word-ok, word_stands, word-before}
 use Rattle.book_laws.specs.declared.Book.{Book}
 use Rattle.book_laws.specs.Bounds.{most_number}
 use Rattle.book_laws.specs.Report.{priced_word, bonds_word, options_word, allowances_word, dearest_word, lines_from, refusals_line}
@@ -86,6 +89,12 @@ module _ (counts out₀ : List ℕ) (end : ℕ) where
   unfolding lines_from
   standing-first h = record { upto = omega arith; near = omega arith; put = put-none out₀ end h }
 
+  -- the next line is not refused
+  pub standing-ok : {out : List ℕ} {start left : ℕ} → Standing counts out₀ end out start left → longest_line * most_number ≤ end → 0 < left →
+      (line : List ℕ) (answer : Result ℕ Refusal) {after : List ℕ} → Lined refused_word out start line (placed_of answer) after → IsOk answer
+  standing-ok {out} {start} s h l line answer e =
+      word-ok refused_word out start line answer (omega arith) (omega (arith, s.near, s.upto)) (omega (arith, s.put.place, s.put.within, s.put.same)) e
+
   pub standing-next : {out : List ℕ} {start left : ℕ} → Standing counts out₀ end out start left → longest_line * most_number ≤ end → 0 < left →
       (number count : ℕ) → number ≡ left → count ≡ values counts (left - 1) → count < 2 ^ 64 → {answer : Placed} {after : List ℕ} →
       Lined refused_word out start (pair_line refused_word number count) answer after → Standing counts out₀ end after answer.start (left - 1)
@@ -117,8 +126,14 @@ module _ (b : Book) where
       let n = sums-length b.bonds b.options b.error_bounds b.place f g k l in
       (omega (arith, p.place), omega (arith, p.place, p.within, p.same))
 
+  pub priced-ok : {out₁ out₂ : List ℕ} {s₁ s₂ : ℕ} → Put out₁ s₁ (refusal_lines b.refused) s₂ out₂ → s₁ ≤ s₂ + longest_line * most_number →
+      longest_line * most_number + longest_line ≤ s₁ → (line : List ℕ) (answer : Result ℕ Refusal) {after : List ℕ} →
+      Lined priced_word out₂ s₂ line (placed_of answer) after → IsOk answer
+  priced-ok q n h line answer e = word-ok priced_word _ _ line answer (omega arith) (omega arith) (omega (arith, q.place, q.within, q.same)) e
+
   pub book-stands : {out₀ out₁ out₂ : List ℕ} {end s₁ s₂ : ℕ} → Put out₀ end (sum_lines b.bonds b.options b.error_bounds b.place) s₁ out₁
-      → Put out₁ s₁ (refusal_lines b.refused) s₂ out₂ → s₁ ≤ s₂ + longest_line * most_number → longest_line * most_number + longest_line ≤ s₁ → b.priced < 2 ^ 64
+      → Put out₁ s₁ (refusal_lines b.refused) s₂ out₂ → s₁ ≤ s₂ + longest_line * most_number → longest_line * most_number + longest_line ≤ s₁ →
+      b.priced < 2 ^ 64
       → {answer : Placed} {after : List ℕ}
       → Lined priced_word out₂ s₂ (whole_line priced_word b.priced) answer after → Put out₀ end (book_lines b) answer.start after
   unfolding book_lines

@@ -23,11 +23,10 @@ fn put_sums(
     requires { (512 ≤ end) × (end ≤ length out.old) }
     ensures { Put out.old end (sum_lines bonds options error_bounds place) result out.new }
 {
-    let dearest = text::whole_line(out, end, b"dearest ", place);
-    let allowed = text::whole_line(out, dearest.start, b"allowances ", error_bounds);
-    let optional = text::amount_line(out, allowed.start, b"options ", options);
-    let bonded = text::amount_line(out, optional.start, b"bonds ", bonds);
-    bonded.start
+    let dearest = text::whole_line(out, end, b"dearest ", place).unwrap();
+    let allowed = text::whole_line(out, dearest, b"allowances ", error_bounds).unwrap();
+    let optional = text::amount_line(out, allowed, b"options ", options).unwrap();
+    text::amount_line(out, optional, b"bonds ", bonds).unwrap()
 }
 
 // The last number's line comes first, so that the lines stand in order.
@@ -37,11 +36,8 @@ fn put_refusals(out: &mut [u8], end: usize, counts: &[u64]) -> usize
     ensures end_bound { end ≤ result + longest_line * most_number }
 {
     let mut start = end;
-    let mut left = 13usize;
-    while left > 0 {
-        left -= 1;
-        let line = text::pair_line(out, start, b"refused ", left as u64 + 1, counts[left]);
-        start = line.start;
+    for index in (0..counts.len()).rev() {
+        start = text::pair_line(out, start, b"refused ", index as u64 + 1, counts[index]).unwrap();
     }
     start
 }
@@ -61,8 +57,7 @@ fn put_book(out: &mut [u8], end: usize, book: Book) -> usize
     );
     let counts = book.refused;
     let refusals_start = put_refusals(out, sums_start, &counts);
-    let line = text::whole_line(out, refusals_start, b"priced ", book.priced);
-    line.start
+    text::whole_line(out, refusals_start, b"priced ", book.priced).unwrap()
 }
 
 // The eighteen lines of a book, at the end of the lent room: 2,304 bytes are enough, and fewer are refused with 6 and left as they were.

@@ -8,12 +8,6 @@ ghost use Rattle.book_laws.specs.Report.{book_lines, lines_answer, lines_memory}
 
 use book_laws::{Book, BookText, Head};
 
-fn wide(x: u8) -> usize
-    ensures { (result ≡ x) × (result < 256) }
-{
-    x as usize
-}
-
 // Reads the head of a field from the first three bytes. Fewer, or another tag, are not sound.
 pub fn head_of(bytes: &[u8]) -> Head
     ensures value { result ≡ head_of bytes.now }
@@ -33,7 +27,7 @@ pub fn head_of(bytes: &[u8]) -> Head
     }
     Head {
         sound: true,
-        size: wide(bytes[1]) * 256 + wide(bytes[2]),
+        size: usize::from(bytes[1]) * 256 + usize::from(bytes[2]),
     }
 }
 
@@ -61,18 +55,15 @@ pub fn file_book(file: &[u8]) -> Book
     let mut state_prices = limits::state_price_room();
     let mut book = book_fields::empty();
     let mut at = 0usize;
-    let mut left = book_laws::MOST_FIELDS;
-    while left > 0 {
+    for _ in 0..book_laws::MOST_FIELDS {
         let end = field_end(file, at);
         if end == at {
             return book_fields::closed(book, file.len() - at);
         }
         let from = at + 3;
         let field = &file[from..end];
-        let next = book_fields::with_field_in(book, field, &mut discounts, &mut state_prices);
-        book = next;
+        book = book_fields::with_field_in(book, field, &mut discounts, &mut state_prices);
         at = end;
-        left -= 1;
     }
     book_fields::closed(book, file.len() - at)
 }

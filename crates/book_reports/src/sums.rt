@@ -33,10 +33,8 @@ fn counts_of(first: [u64; 13], second: [u64; 13]) -> [u64; 13]
     ensures { result ≡ row most_number (λ k. values first k + values second k) }
 {
     let mut sums = [0u64; 13];
-    let mut k = 0usize;
-    while k < 13 {
+    for k in 0..13 {
         sums[k] = first[k] + second[k];
-        k += 1;
     }
     sums
 }

@@ -1,9 +1,10 @@
 // The branch of a node: where it leads and how likely; and the table of down-probabilities that serves every row.
 #![tactic(auto)]
 
-ghost use Rattle.std.specs.Prelude.{◌≡◌, ◌+◌, ◌*◌, ◌≤◌, true, pos, nat_abs, length};
+ghost use Rattle.std.specs.Prelude.{Ok, ◌≡◌, ◌+◌, ◌*◌, ◌≤◌, true, pos, nat_abs, length};
 ghost use Rattle.std.specs.Int.Signed.{lt_z};
 ghost use Rattle.arithmetic.specs.Row.{row};
+ghost use Rattle.arithmetic.specs.Refusals.{cause_of};
 ghost use Rattle.limits.specs.Limits.{most_steps, most_reversion};
 ghost use Rattle.lattice.specs.Branching.{
   ordinary,
@@ -15,9 +16,10 @@ ghost use Rattle.lattice.specs.Branching.{
   down_probability,
 };
 ghost use Rattle.lattice.specs.RateTree.{node_of_index};
-ghost use Rattle.lattice.specs.Entries.{refused_branch, branch_of, branch_answer, table_number, table_of};
+ghost use Rattle.lattice.specs.Entries.{branches_of, branch_of, branch_answer, table_number, table_of};
 
-use lattice::Branches;
+use arithmetic::Refusal;
+use lattice::Branch;
 
 // The five formulas of the upper side at z; down at the edge is the ordinary up.
 fn ordinary_up(z: u64) -> u64
@@ -67,21 +69,11 @@ fn upper(reversion: u64, distance: u64) -> [u64; 3]
     [ordinary_up(z), ordinary_middle(z), ordinary_down(z)]
 }
 
-fn refused_branch(number: u64) -> Branches
-    ensures { result ≡ refused_branch number }
-{
-    Branches {
-        number,
-        lowest: 0,
-        probabilities: [0, 0, 0],
-    }
-}
-
 // The branch of a node below the middle: the mirror image of the node so far above it.
-fn lower_branch(reversion: u64, node: i64, distance: u64) -> Branches
+fn lower_branch(reversion: u64, node: i64, distance: u64) -> Branch
     requires reversion_le_most_reversion { (reversion ≤ most_reversion) × (distance ≤ most_steps) × (distance * reversion ≤ 1840 + reversion) }
     requires node_value { (nat_abs node ≡ distance) × (lt_z node (pos 0) ≡ true) }
-    ensures { result ≡ branch_of reversion node }
+    ensures { branches_of (Ok result) ≡ branch_of reversion node }
 {
     let image = upper(reversion, distance);
     let probabilities = [image[2], image[1], image[0]];
@@ -90,17 +82,16 @@ fn lower_branch(reversion: u64, node: i64, distance: u64) -> Branches
     } else {
         node - 1
     };
-    Branches {
-        number: 0,
+    Branch {
         lowest,
         probabilities,
     }
 }
 
-fn upper_branch(reversion: u64, node: i64, distance: u64) -> Branches
+fn upper_branch(reversion: u64, node: i64, distance: u64) -> Branch
     requires reversion_le_most_reversion { (reversion ≤ most_reversion) × (distance ≤ most_steps) × (distance * reversion ≤ 1840 + reversion) }
     requires node_value { node ≡ pos distance }
-    ensures { result ≡ branch_of reversion node }
+    ensures { branches_of (Ok result) ≡ branch_of reversion node }
 {
     let probabilities = upper(reversion, distance);
     let lowest = if 1840 < distance * reversion {
@@ -108,34 +99,33 @@ fn upper_branch(reversion: u64, node: i64, distance: u64) -> Branches
     } else {
         node - 1
     };
-    Branches {
-        number: 0,
+    Branch {
         lowest,
         probabilities,
     }
 }
 
 // Where a node of a row leads.
-pub fn branch(reversion: u64, row: usize, node: i64) -> Branches
-    ensures { result ≡ branch_answer reversion row node }
+pub fn branch(reversion: u64, row: usize, node: i64) -> Result<Branch, Refusal>
+    ensures { branches_of result ≡ branch_answer reversion row node }
 {
     if limits::MOST_REVERSION < reversion {
-        return refused_branch(4);
+        return Err(Refusal::Reversion);
     }
     if limits::MOST_STEPS <= row {
-        return refused_branch(6);
+        return Err(Refusal::LengthOrRow);
     }
     let distance = arithmetic::magnitude(node);
     if (row as u64) < distance {
-        return refused_branch(6);
+        return Err(Refusal::LengthOrRow);
     }
     if 1840 + reversion < distance * reversion {
-        return refused_branch(6);
+        return Err(Refusal::LengthOrRow);
     }
     if node < 0 {
-        return lower_branch(reversion, node, distance);
+        return Ok(lower_branch(reversion, node, distance));
     }
-    upper_branch(reversion, node, distance)
+    Ok(upper_branch(reversion, node, distance))
 }
 
 // The down-probability of the node at an index of a row of this half width.
@@ -156,31 +146,33 @@ fn fill_table(reversion: u64, half_width: usize, table: &mut [u64])
         × (length table.old ≡ 2 * half_width + 1) }
     ensures { table.new ≡ row (length table.old) (λ k. down_probability reversion (node_of_index half_width k)) }
 {
-    let mut index = 0;
-    while index < table.len() {
-        table[index] = down_of(reversion, half_width, index);
-        index += 1;
+    for (index, place) in table.iter_mut().enumerate() {
+        *place = down_of(reversion, half_width, index);
     }
 }
 
 // The down-probabilities of nodes -w to w, worked out once for all rows: the up-probability of a node is the down-probability
 // of its mirror image, and the middle one is what is left of 600,000,000.
-pub fn down_probabilities(reversion: u64, half_width: usize, table: &mut [u64]) -> u64
-    ensures number { result ≡ table_number reversion half_width (length table.old) }
+pub fn down_probabilities(
+    reversion: u64,
+    half_width: usize,
+    table: &mut [u64],
+) -> Result<(), Refusal>
+    ensures number { cause_of result ≡ table_number reversion half_width (length table.old) }
     ensures memory { table.new ≡ table_of reversion half_width table.old }
 {
     if limits::MOST_REVERSION < reversion {
-        return 4;
+        return Err(Refusal::Reversion);
     }
     if limits::MOST_STEPS < half_width {
-        return 6;
+        return Err(Refusal::LengthOrRow);
     }
     if 1840 + reversion < (half_width as u64) * reversion {
-        return 6;
+        return Err(Refusal::LengthOrRow);
     }
     if table.len() != 2 * half_width + 1 {
-        return 6;
+        return Err(Refusal::LengthOrRow);
     }
     fill_table(reversion, half_width, table);
-    0
+    Ok(())
 }

@@ -84,49 +84,49 @@ pub extern "C" fn mixegorta_version() -> u64
 pub extern "C" fn mixegorta_half_width(reversion: u64, row: usize) -> Answer
     ensures { result ≡ half_width_answer reversion row }
 {
-    lattice::half_width(reversion, row)
+    Answer::from(lattice::half_width(reversion, row))
 }
 
 #[unsafe(no_mangle)]
 pub extern "C" fn mixegorta_node_count(reversion: u64, row: usize) -> Answer
     ensures { result ≡ node_count_answer reversion row }
 {
-    lattice::node_count(reversion, row)
+    Answer::from(lattice::node_count(reversion, row))
 }
 
 #[unsafe(no_mangle)]
 pub extern "C" fn mixegorta_row_start(reversion: u64, row: usize) -> Answer
     ensures { result ≡ row_start_answer reversion row }
 {
-    lattice::row_start(reversion, row)
+    Answer::from(lattice::row_start(reversion, row))
 }
 
 #[unsafe(no_mangle)]
 pub extern "C" fn mixegorta_discounts_needed(steps: usize, reversion: u64) -> Answer
     ensures { result ≡ discounts_needed_answer steps reversion }
 {
-    lattice::discounts_needed(steps, reversion)
+    Answer::from(lattice::discounts_needed(steps, reversion))
 }
 
 #[unsafe(no_mangle)]
 pub extern "C" fn mixegorta_state_prices_needed(steps: usize, reversion: u64) -> Answer
     ensures { result ≡ state_prices_needed_answer steps reversion }
 {
-    lattice::state_prices_needed(steps, reversion)
+    Answer::from(lattice::state_prices_needed(steps, reversion))
 }
 
 #[unsafe(no_mangle)]
 pub extern "C" fn mixegorta_branches(reversion: u64, row: usize, node: i64) -> Branches
     ensures { result ≡ branch_answer reversion row node }
 {
-    branches::branch(reversion, row, node)
+    Branches::from(branches::branch(reversion, row, node))
 }
 
 #[unsafe(no_mangle)]
 pub extern "C" fn mixegorta_working_reversion(version: u64, reversion: u64) -> Answer
     ensures { result ≡ working_answer version reversion }
 {
-    reversion::working_reversion(version, reversion)
+    Answer::from(reversion::working_reversion(version, reversion))
 }
 
 // ---- level one: quotes, the fit, rows, rates
@@ -135,7 +135,7 @@ pub extern "C" fn mixegorta_working_reversion(version: u64, reversion: u64) -> A
 pub extern "C" fn mixegorta_quote_discount(frequency: u64, kind: u8, point: Point) -> Answer
     ensures { result ≡ lone_answer frequency kind point }
 {
-    quotes::lone_point(frequency, kind, point)
+    Answer::from(quotes::lone_point(frequency, kind, point))
 }
 
 #[unsafe(no_mangle)]
@@ -152,7 +152,7 @@ pub extern "C" fn mixegorta_curve_discounts(
     ensures memory { discounts.new ≡ curve_memory frequency steps
         rows.now kinds.now figures.now discounts.old }
 {
-    curve::convert(frequency, steps, rows, kinds, figures, discounts)
+    arithmetic::cause(curve::convert(frequency, steps, rows, kinds, figures, discounts))
 }
 
 #[unsafe(no_mangle)]
@@ -174,7 +174,7 @@ pub extern "C" fn mixegorta_fit(
     ensures priced { state_prices.new ≡ state_prices_after frequency steps reversion volatility
         rows.now kinds.now figures.now discounts.old state_prices.old }
 {
-    fitting::fit(
+    arithmetic::cause(fitting::fit(
         frequency,
         steps,
         reversion,
@@ -184,7 +184,7 @@ pub extern "C" fn mixegorta_fit(
         figures,
         discounts,
         state_prices,
-    )
+    ))
 }
 
 #[unsafe(no_mangle)]
@@ -207,7 +207,7 @@ pub extern "C" fn mixegorta_fit_version(
     ensures priced { state_prices.new ≡ version_state_prices_after version frequency steps reversion volatility
         rows.now kinds.now figures.now discounts.old state_prices.old }
 {
-    fitting::fit_version(
+    arithmetic::cause(fitting::fit_version(
         version,
         frequency,
         steps,
@@ -218,7 +218,7 @@ pub extern "C" fn mixegorta_fit_version(
         figures,
         discounts,
         state_prices,
-    )
+    ))
 }
 
 #[unsafe(no_mangle)]
@@ -239,14 +239,14 @@ pub extern "C" fn mixegorta_row_range(
 pub extern "C" fn mixegorta_step_rate(discount: u64) -> Rate
     ensures { result ≡ rate_answer discount }
 {
-    step_rate::of_discount(discount)
+    Rate::from(step_rate::of_discount(discount))
 }
 
 #[unsafe(no_mangle)]
 pub extern "C" fn mixegorta_continuous_rate(discount: u64) -> Rate
     ensures { result ≡ continuous_rate_answer discount }
 {
-    continuous_rate::of_discount(discount)
+    Rate::from(continuous_rate::of_discount(discount))
 }
 
 #[unsafe(no_mangle)]
@@ -258,7 +258,7 @@ pub extern "C" fn mixegorta_state_price_error_bound(
 ) -> Answer
     ensures { result ≡ state_price_error_bound_answer steps reversion discounts.now row }
 {
-    state_price_bound::state_price_error_bound(steps, reversion, discounts, row)
+    Answer::from(state_price_bound::state_price_error_bound(steps, reversion, discounts, row))
 }
 
 // ---- level two: prices on any lent discounts
@@ -271,7 +271,7 @@ pub extern "C" fn mixegorta_price_error_bound(
 ) -> Answer
     ensures { result ≡ price_error_bound_answer steps reversion discounts.now }
 {
-    price_bound::price_error_bound(steps, reversion, discounts)
+    Answer::from(price_bound::price_error_bound(steps, reversion, discounts))
 }
 
 #[unsafe(no_mangle)]
@@ -282,7 +282,7 @@ pub extern "C" fn mixegorta_tree_bounds(
 ) -> TreeErrorBounds
     ensures { result ≡ tree_bounds_answer steps reversion discounts.now }
 {
-    price_bound::tree_bounds(steps, reversion, discounts)
+    TreeErrorBounds::from(price_bound::tree_bounds(steps, reversion, discounts))
 }
 
 #[unsafe(no_mangle)]
@@ -391,7 +391,7 @@ pub extern "C" fn mixegorta_option_strip_of_kind(
 pub extern "C" fn mixegorta_value_by_state_prices(state_prices: &[u64], payoffs: &[u64]) -> Answer
     ensures { result ≡ value_by_state_prices_answer state_prices.now payoffs.now }
 {
-    valuation::value_by_state_prices(state_prices, payoffs)
+    Answer::from(valuation::value_by_state_prices(state_prices, payoffs))
 }
 
 #[unsafe(no_mangle)]
@@ -404,7 +404,7 @@ pub extern "C" fn mixegorta_valuation_error_bound(
 ) -> Answer
     ensures { result ≡ valuation_error_bound_answer steps reversion discounts.now row payoffs.now }
 {
-    valuation::valuation_error_bound(steps, reversion, discounts, row, payoffs)
+    Answer::from(valuation::valuation_error_bound(steps, reversion, discounts, row, payoffs))
 }
 
 // ---- a whole job
@@ -670,13 +670,13 @@ pub extern "C" fn mixegorta_check_bands(
     ensures { result ≡ verdict first_rows.now last_rows.now lowest_prices.now
         highest_prices.now haircuts.now }
 {
-    bands::check_bands(
+    Verdict::from(bands::check_bands(
         first_rows,
         last_rows,
         lowest_prices,
         highest_prices,
         haircuts,
-    )
+    ))
 }
 
 #[unsafe(no_mangle)]
@@ -692,7 +692,7 @@ pub extern "C" fn mixegorta_lending_worth(
     ensures { result ≡ lending_worth first_rows.now last_rows.now lowest_prices.now
         highest_prices.now haircuts.now row price }
 {
-    lending::lending_worth(
+    Worth::from(lending::lending_worth(
         first_rows,
         last_rows,
         lowest_prices,
@@ -700,7 +700,7 @@ pub extern "C" fn mixegorta_lending_worth(
         haircuts,
         row,
         price,
-    )
+    ))
 }
 
 // ---- a rate tree and a spread tree together

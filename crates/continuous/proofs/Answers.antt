@@ -11,7 +11,12 @@ use mir.Val.{SFits, to_z, of_z}
 use mir.Facts.{to_z-of_z}
 use Rattle.arithmetic.specs.Rounding.{one, round_down}
 use Rattle.arithmetic.specs.Answers.{refused, answered}
+use Rattle.std.proofs.Common.{Result}
+use Rattle.std.specs.Result.{IsOk}
+use Rattle.arithmetic.specs.Refusals.{answer_of}
 use Rattle.arithmetic.specs.declared.Answer.{Answer}
+use Rattle.arithmetic.specs.declared.Refusal.{Refusal}
+use Rattle.arithmetic.proofs.RefusalLaws.{answer-ok}
 use Rattle.factor.specs.Series.{term, series}
 use Rattle.factor.specs.Factor.{side_factor, side_answer}
 use Rattle.factor.proofs.FactorLaws.{side-accepted}
@@ -33,6 +38,10 @@ module _ (q : ℕ) (below : Bool) where
   -- the value of an accepted answer
   pub quotient-value : (a : Answer) → a ≡ quotient_answer q below → q ≤ one → a.value ≡ side_discount q below
   quotient-value a e l = ap (λ (r : Answer). r.value) (e ∙ quotient-accepted l)
+
+  -- and there is such a value
+  pub quotient-ok : (r : Result ℕ Refusal) → answer_of r ≡ quotient_answer q below → q ≤ one → IsOk r
+  quotient-ok r e l = answer-ok r (ap (λ (a : Answer). a.number) (e ∙ quotient-accepted l))
 
 module _ (y : ℤ) where
   pub amount-refused : amount_limit < nat_abs y → continuous_answer y ≡ refused 7

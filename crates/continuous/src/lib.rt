@@ -2,9 +2,10 @@
 #![tactic(auto)]
 
 ghost use Rattle.std.specs.Prelude.{◌≡◌, ◌≤◌};
+ghost use Rattle.arithmetic.specs.Refusals.{answer_of};
 ghost use Rattle.continuous.specs.Continuous.{fourth_power, quotient_answer, continuous_answer};
 
-use arithmetic::{Answer, ONE};
+use arithmetic::{ONE, Refusal};
 
 // Squares of numbers up to this one have 64 bits.
 const HALF_WORD: u64 = 4_294_967_295;
@@ -23,34 +24,25 @@ fn fourth_power(series: u64) -> u64
     whole * whole * ONE + 2 * whole * part + part * part / ONE
 }
 
-// The discount of four times the quotient, below zero or not; refuses with 7 beyond the limit.
-pub fn discount_of_quotient(quotient: u64, below: bool) -> Answer
-    ensures { result ≡ quotient_answer quotient below }
+// The discount of four times the quotient, below zero or not; refused beyond the limit.
+pub fn discount_of_quotient(quotient: u64, below: bool) -> Result<u64, Refusal>
+    ensures { answer_of result ≡ quotient_answer quotient below }
 {
     if ONE < quotient {
-        return Answer {
-            number: 7,
-            value: 0,
-        };
+        return Err(Refusal::Quote);
     }
     // The series at the quotient is the factor of a node next to the middle one.
-    let series = factor::factor(1, below, quotient);
-    Answer {
-        number: 0,
-        value: fourth_power(series.value),
-    }
+    let series = factor::factor(1, below, quotient).unwrap();
+    Ok(fourth_power(series))
 }
 
-// The discount of an amount, before any range test; refuses with 7 beyond the limit.
-pub fn discount(amount: i64) -> Answer
-    ensures { result ≡ continuous_answer amount }
+// The discount of an amount, before any range test; refused beyond the limit.
+pub fn discount(amount: i64) -> Result<u64, Refusal>
+    ensures { answer_of result ≡ continuous_answer amount }
 {
     let size = arithmetic::magnitude(amount);
     if 4_000_000_000 < size {
-        return Answer {
-            number: 7,
-            value: 0,
-        };
+        return Err(Refusal::Quote);
     }
     discount_of_quotient(size / 4, amount < 0)
 }

@@ -5,19 +5,18 @@ ghost use Rattle.std.specs.Prelude.{◌≡◌, true, false, ◌+◌, ◌-◌, �
 ghost use Rattle.arithmetic.specs.Rounding.{one};
 ghost use Rattle.limits.specs.Limits.{most_discount};
 ghost use Rattle.continuous.specs.Continuous.{side_discount};
+ghost use Rattle.step_rate.specs.StepRate.{rate_of};
 ghost use Rattle.continuous_rate.specs.Least.{first_least};
 ghost use Rattle.continuous_rate.specs.ContinuousRate.{continuous_rate_answer};
 ghost use Rattle.continuous_rate.specs.inside.Search.{side_miss, window_miss, before, reach_of, Passes};
 
-use arithmetic::ONE;
-use step_rate::Rate;
+use arithmetic::{ONE, Refusal};
 
 fn side_discount(quotient: u64, below: bool) -> u64
     requires { quotient ≤ one }
     ensures { result ≡ side_discount quotient below }
 {
-    let answer = continuous::discount_of_quotient(quotient, below);
-    answer.value
+    continuous::discount_of_quotient(quotient, below).unwrap()
 }
 
 // How far the discount of a quotient is from the given one.
@@ -26,10 +25,7 @@ fn side_miss(discount: u64, below: bool, quotient: u64) -> u64
     ensures { result ≡ side_miss discount below quotient }
 {
     let found = side_discount(quotient, below);
-    if found < discount {
-        return discount - found;
-    }
-    found - discount
+    found.abs_diff(discount)
 }
 
 // Whether the discounts of one side, which start at one, have not passed the given one at a quotient.
@@ -69,12 +65,11 @@ fn nearest_between(discount: u64, from: u64, count: u64) -> u64
 {
     let mut best = from;
     let mut least = side_miss(discount, false, from);
-    let mut k: u64 = 0;
-    while k < count {
-        k += 1;
-        let miss = side_miss(discount, false, from + k);
+    for k in 0..count {
+        let quotient = from + (k + 1);
+        let miss = side_miss(discount, false, quotient);
         if miss < least {
-            best = from + k;
+            best = quotient;
             least = miss;
         }
     }
@@ -95,10 +90,7 @@ fn reach(quotient: u64) -> u64
 fn window_start(quotient: u64, reach: u64) -> u64
     ensures { result ≡ quotient - reach }
 {
-    if quotient < reach {
-        return 0;
-    }
-    quotient - reach
+    quotient.saturating_sub(reach)
 }
 
 // A quotient with its reach and one more, at most one.
@@ -106,10 +98,7 @@ fn window_end(quotient: u64, reach: u64) -> u64
     requires { (quotient ≤ one) × (reach ≤ 100) }
     ensures { (quotient ≤ result) × (result ≤ one) × (result < one → quotient + reach + 1 ≤ result) }
 {
-    if quotient + reach < ONE {
-        return quotient + reach + 1;
-    }
-    ONE
+    (quotient + reach + 1).min(ONE)
 }
 
 // The first quotient above zero whose discount is nearest. Discounts do not fall at every quotient, but over the reach they do.
@@ -135,24 +124,15 @@ fn nearest_below(discount: u64) -> u64
     place
 }
 
-// The continuous rate of a discount. Refusal 9: the discount is 0 or above 1.1.
-pub fn of_discount(discount: u64) -> Rate
-    ensures { result ≡ continuous_rate_answer discount }
+// The signed continuous rate of a discount, in billionths; refused where the discount is 0 or above 1.1.
+pub fn of_discount(discount: u64) -> Result<i64, Refusal>
+    ensures { rate_of result ≡ continuous_rate_answer discount }
 {
     if !limits::is_discount(discount) {
-        return Rate {
-            number: 9,
-            value: 0,
-        };
+        return Err(Refusal::Discount);
     }
     if discount > ONE {
-        return Rate {
-            number: 0,
-            value: -((4 * nearest_below(discount)) as i64),
-        };
+        return Ok(-((4 * nearest_below(discount)) as i64));
     }
-    Rate {
-        number: 0,
-        value: (4 * nearest_above(discount)) as i64,
-    }
+    Ok((4 * nearest_above(discount)) as i64)
 }

@@ -2,22 +2,21 @@
 #![tactic(auto)]
 
 ghost use Rattle.std.specs.Prelude.{◌≡◌, ◌≤◌, ◌<◌, length};
+ghost use Rattle.arithmetic.specs.Refusals.{cause_of, answer_of};
 ghost use Rattle.arithmetic.specs.Row.{row, place, each};
 ghost use Rattle.curve.specs.Curve.{answer_at, discount_at, converts_at, place_at, in_place, curve_number, curve_memory};
 
-use arithmetic::Answer;
+use arithmetic::Refusal;
 use quotes::Point;
 
 // Whether each point's row is its place.
 fn in_order(rows: &[u64]) -> bool
     ensures { result ≡ each (length rows.now) (place_at rows.now) }
 {
-    let mut i = 0usize;
-    while i < rows.len() {
-        if rows[i] != (i + 1) as u64 {
+    for (i, row) in rows.iter().enumerate() {
+        if *row != (i + 1) as u64 {
             return false;
         }
-        i += 1;
     }
     true
 }
@@ -42,9 +41,9 @@ fn is_in_place(steps: usize, rows: &[u64], kinds: &[u8], figures: &[f64], room: 
 }
 
 // The answer to the point at a place.
-fn answer_at(frequency: u64, kinds: &[u8], figures: &[f64], i: usize) -> Answer
+fn answer_at(frequency: u64, kinds: &[u8], figures: &[f64], i: usize) -> Result<u64, Refusal>
     requires { (i < length kinds.now) × (i < length figures.now) }
-    ensures { result ≡ answer_at frequency kinds.now figures.now i }
+    ensures { answer_of result ≡ answer_at frequency kinds.now figures.now i }
 {
     let point = Point {
         row: (i + 1) as u64,
@@ -58,18 +57,15 @@ fn all_convert(frequency: u64, kinds: &[u8], figures: &[f64]) -> bool
     requires { length figures.now ≡ length kinds.now }
     ensures { result ≡ each (length kinds.now) (converts_at frequency kinds.now figures.now) }
 {
-    let mut i = 0usize;
-    while i < kinds.len() {
-        let answer = answer_at(frequency, kinds, figures, i);
-        if answer.number != 0 {
+    for i in 0..kinds.len() {
+        if answer_at(frequency, kinds, figures, i).is_err() {
             return false;
         }
-        i += 1;
     }
     true
 }
 
-// The number of the refusal, the lowest first, or 0.
+// The refusal, the lowest first, where there is one.
 fn cause(
     frequency: u64,
     steps: usize,
@@ -77,22 +73,22 @@ fn cause(
     kinds: &[u8],
     figures: &[f64],
     room: usize,
-) -> u64
-    ensures { result ≡ curve_number frequency steps rows.now kinds.now figures.now room }
+) -> Result<(), Refusal>
+    ensures { cause_of result ≡ curve_number frequency steps rows.now kinds.now figures.now room }
 {
     if !arithmetic::is_frequency(frequency) {
-        return 2;
+        return Err(Refusal::Frequency);
     }
     if !limits::is_steps(steps) {
-        return 3;
+        return Err(Refusal::Steps);
     }
     if !is_in_place(steps, rows, kinds, figures, room) {
-        return 6;
+        return Err(Refusal::LengthOrRow);
     }
     if !all_convert(frequency, kinds, figures) {
-        return 7;
+        return Err(Refusal::Quote);
     }
-    0
+    Ok(())
 }
 
 // The discounts of the points, at the start of the memory.
@@ -101,16 +97,13 @@ fn store(frequency: u64, kinds: &[u8], figures: &[f64], discounts: &mut [u64])
     ensures { discounts.new ≡ place discounts.old 0
         (row (length kinds.now) (discount_at frequency kinds.now figures.now)) }
 {
-    let mut i = 0usize;
-    while i < kinds.len() {
-        let answer = answer_at(frequency, kinds, figures, i);
-        discounts[i] = answer.value;
-        i += 1;
+    for i in 0..kinds.len() {
+        discounts[i] = answer_at(frequency, kinds, figures, i).unwrap_or(0);
     }
 }
 
 // The discounts of rows 1 to n at the start of the lent memory, what stands past them left as it was. A refusal leaves all of it:
-// 2 the steps a year, 3 the steps, 6 a length that is not n, too short a memory or a row out of place, 7 a kind, figure or discount.
+// the steps a year, the steps, a length that is not n, too short a memory or a row out of place, then a kind, figure or discount.
 pub fn convert(
     frequency: u64,
     steps: usize,
@@ -118,16 +111,13 @@ pub fn convert(
     kinds: &[u8],
     figures: &[f64],
     discounts: &mut [u64],
-) -> u64
-    ensures number { result ≡ curve_number frequency steps
+) -> Result<(), Refusal>
+    ensures number { cause_of result ≡ curve_number frequency steps
         rows.now kinds.now figures.now (length discounts.old) }
     ensures memory { discounts.new ≡ curve_memory frequency steps
         rows.now kinds.now figures.now discounts.old }
 {
-    let number = cause(frequency, steps, rows, kinds, figures, discounts.len());
-    if number != 0 {
-        return number;
-    }
+    cause(frequency, steps, rows, kinds, figures, discounts.len())?;
     store(frequency, kinds, figures, discounts);
-    0
+    Ok(())
 }

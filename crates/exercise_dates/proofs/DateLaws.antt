@@ -10,6 +10,7 @@ use lib.Dec.{eqb, leb, ltb}
 use lib.ListN.{length, take, set, replicate, length-set, length-replicate, get_or-eq_default}
 use lib.Seq.{get_or-set_same, get_or-set_other}
 use borrow.Author.Tests.{lt-ltb, le-ltb, lt-leb, le-leb, leb-true}
+use Rattle.std.specs.List.{IsAllAdjacentAnswer}
 use Rattle.arithmetic.specs.Row.{row, values, each, overlay, padded}
 use Rattle.arithmetic.proofs.Numbers.{by_order, by_equal, by-test}
 use Rattle.arithmetic.proofs.RowLaws.{length-row, values-row, row_of, each_none, each_more, each-fails, each_holds, each_all, zeros}
@@ -53,6 +54,12 @@ module _ (dates : List ℕ) (k : ℕ) (some : 0 < k) where
   unfolding rising
   rising-all before h =
       sym (each_all (length dates - 1) (rises dates) (λ j l. each_holds (k - 1) j (rises dates) before (omega arith)))
+
+-- and as a test of neighbours answers it
+pub rising-answered : (dates : List ℕ) (r : Bool) → IsAllAdjacentAnswer (λ x y b. b ≡ ltb x y) dates r → r ≡ rising dates
+unfolding rising
+rising-answered dates true h = sym (each_all (length dates - 1) _ (λ k l. sym (h k 0 (omega arith))))
+rising-answered dates false h = sym (each-fails (length dates - 1) h.0 _ (omega (arith, h.1)) (sym (h.2 0)))
 
 pub none_last : (dates : List ℕ) → length dates ≡ 0 → 0 ≡ last_date dates
 none_last dates e = sym (get_or-eq_default dates 0 (omega arith))

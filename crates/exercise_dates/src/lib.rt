@@ -21,14 +21,7 @@ pub struct Dates {
 fn is_rising(dates: &[u8]) -> bool
     ensures { result ≡ rising dates.now }
 {
-    let mut k: usize = 1;
-    while k < dates.len() {
-        if dates[k] <= dates[k - 1] {
-            return false;
-        }
-        k += 1;
-    }
-    true
+    dates.is_sorted_by(|row, next| row < next)
 }
 
 // The last row of a list; 0 for an empty one.
@@ -63,13 +56,11 @@ pub fn marks_of(dates: &[u8]) -> [u8; MOST_ROWS]
     ensures { result ≡ marks_of dates.now }
 {
     let mut marks = [0u8; MOST_ROWS];
-    let mut k: usize = 0;
-    while k < dates.len() {
-        let row = dates[k] as usize;
+    for date in dates {
+        let row = *date as usize;
         if row < MOST_ROWS {
             marks[row] = 1;
         }
-        k += 1;
     }
     marks
 }
@@ -99,10 +90,8 @@ fn dates_to(expiry: usize) -> [u8; MOST_ROWS]
     ensures { result ≡ dates_to expiry }
 {
     let mut rows = [0u8; MOST_ROWS];
-    let mut row: u8 = 0;
-    while (row as usize) < MOST_ROWS {
-        rows[row as usize] = row_to(row, expiry);
-        row += 1;
+    for (row, place) in rows.iter_mut().enumerate() {
+        *place = row_to(row as u8, expiry);
     }
     rows
 }

@@ -42,19 +42,22 @@ fn rate(value: u64, printed: u64)
 fn node_rate(discount: u64, printed: u64)
     requires { printed ≤ 10000 }
 {
-    let found = continuous_rate::of_discount(discount);
-    if found.value < 0 {
+    let found = continuous_rate::of_discount(discount).unwrap_or(0);
+    if found < 0 {
         io::write_all(1, b"rate below zero\n");
         return;
     }
-    rate(found.value as u64, printed);
+    rate(found as u64, printed);
 }
 
 // The probabilities of a node of row 2, in thousandths.
 fn branch(node: i64, up: u64, middle: u64, down: u64)
     requires { (up ≤ 1000) × (middle ≤ 1000) × (down ≤ 1000) }
 {
-    let found = branches::branch(1000, 2, node);
+    let Ok(found) = branches::branch(1000, 2, node) else {
+        io::write_all(1, b"no branch\n");
+        return;
+    };
     let chances = found.probabilities;
     io::write_all(1, b"branch");
     compare(chances[0], 1000, up, 600_000_000, 1);
@@ -79,10 +82,8 @@ fn number(word: &[u8], value: u64) {
 }
 
 fn exhibit_two() {
-    let spaced = spacing::spacing(1, 10_000);
-    rate(spaced.value, 173);
-    let far = spacing::spacing(1, 20_000);
-    rate(far.value, 346);
+    rate(spacing::spacing(1, 10_000).unwrap_or(0), 173);
+    rate(spacing::spacing(1, 20_000).unwrap_or(0), 346);
     branch(0, 167, 666, 167);
     branch(1, 122, 656, 222);
     branch(-1, 222, 656, 122);
@@ -120,7 +121,7 @@ fn exhibit_three() {
         &mut discounts,
         &mut state_prices,
     );
-    number(b"fit ", fitted);
+    number(b"fit ", arithmetic::cause(fitted));
     price(state_prices[1], 1604);
     price(state_prices[2], 6417);
     price(state_prices[3], 1604);
@@ -149,7 +150,7 @@ fn lone() {
         &mut discounts,
         &mut state_prices,
     );
-    number(b"lone ", fitted);
+    number(b"lone ", arithmetic::cause(fitted));
 }
 
 // Cause 8's pair: flat curves of 12 and of 13 rows.
@@ -164,7 +165,7 @@ fn wide(steps: usize) -> u64 {
     if 13 < steps {
         return 0;
     }
-    fitting::fit(
+    arithmetic::cause(fitting::fit(
         1,
         steps,
         0,
@@ -174,7 +175,7 @@ fn wide(steps: usize) -> u64 {
         &figures[..steps],
         &mut discounts,
         &mut state_prices,
-    )
+    ))
 }
 
 fn main() {

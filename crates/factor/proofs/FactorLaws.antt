@@ -2,6 +2,7 @@
 -- Assumes nothing.
 use mathlib.Core.Path.{◌≡◌, refl, sym, ◌∙◌, ap}
 use mathlib.Core.Bool.{Bool, true, false}
+use Rattle.std.proofs.Common.{Result, Ok, Err}
 use Prim.Native.Nat.{ℕ, zero, suc, ◌+◌, ◌-◌, ◌*◌, ◌≤◌, ◌<◌}
 use native.Mathlib.Nat.{le_trans, mul-le-mul_right}
 use native.Mathlib.Omega.{arith}
@@ -11,8 +12,15 @@ use lib.Signed.{lt_z}
 use Rattle.arithmetic.specs.Rounding.{one, round_down}
 use Rattle.arithmetic.specs.Sum.{sum}
 use Rattle.arithmetic.specs.Answers.{refused, answered}
+use Rattle.arithmetic.specs.Refusals.{number_of, answer_of}
 use Rattle.arithmetic.specs.Within.{Within}
+use Rattle.arithmetic.specs.declared.Answer.{Answer}
+use Rattle.arithmetic.specs.declared.Refusal.{Refusal}
+use Rattle.arithmetic.specs.declared.Refusal.TheVariants.{Spacing}
+use Rattle.factor.specs.declared.Sides.{Sides}
+use Rattle.std.specs.Result.{IsOk}
 use Rattle.arithmetic.proofs.Numbers.{by_order}
+use Rattle.arithmetic.proofs.RefusalLaws.{answer-ok}
 use Rattle.factor.specs.Series.{term, even, odd, series, scale}
 use Rattle.factor.specs.Factor.{factor, exact_factor, node_answer, side_factor, side_answer, sides_answer}
 use Rattle.factor.proofs.SeriesLaws.{series-within, sum-by-parts, odd-le-even, term-falls}
@@ -75,22 +83,43 @@ module _ (d : ℕ) (below : Bool) (h : ℕ) where
   unfolding side_answer
   side-accepted l = rw (le-ltb one (d * h) l)
 
+  pub side-ok : (r : Result ℕ Refusal) → answer_of r ≡ side_answer d below h → d * h ≤ one → IsOk r
+  side-ok r e l = answer-ok r (ap (λ (a : Answer). a.number) (e ∙ side-accepted l))
+
 -- both sides are answered alike: where one is refused the other is
-pub sides-refused : (d h : ℕ) → one < d * h → record { number = 8; below = 0; above = 0 } ≡ sides_answer d h
+pub sides-refused : (d h : ℕ) → one < d * h → Err Spacing ≡ sides_answer d h
 unfolding sides_answer
-sides-refused d h l = rw (side-refused d true h l, side-refused d false h l)
+sides-refused d h l = sym (rw (lt-ltb one (d * h) l))
+
+pub sides-accepted :
+    (d h : ℕ) → d * h ≤ one → sides_answer d h ≡ Ok (record { below = side_factor d true h; above = side_factor d false h })
+unfolding sides_answer
+sides-accepted d h l = rw (le-ltb one (d * h) l)
+
+pub sides-ok : (d h : ℕ) (r : Result Sides Refusal) → r ≡ sides_answer d h → d * h ≤ one → IsOk r
+sides-ok d h r e l = rw (e, sides-accepted d h l)
 
 module _ (d h : ℕ) where
-  pub below-of-both : record { number = (sides_answer d h).number; value = (sides_answer d h).below } ≡ side_answer d true h
-  unfolding sides_answer
-  below-of-both = refl
-
-  pub above-of-both : record { number = (sides_answer d h).number; value = (sides_answer d h).above } ≡ side_answer d false h
-  unfolding sides_answer
-  above-of-both =
+  -- the refusal of both is that of each
+  pub refused-of-both : (below : Bool) (r : Refusal) → Err r ≡ sides_answer d h → refused (number_of r) ≡ side_answer d below h
+  refused-of-both below r e =
       by_order (d * h) one
-      (λ l. rw (side-accepted d true h l, side-accepted d false h l))
-      (λ l. rw (side-refused d true h l, side-refused d false h l))
+      (λ l. let f : Err r ≡ Ok (record { below = side_factor d true h; above = side_factor d false h }) = e ∙ sides-accepted d h l in
+      absurd cc)
+      (λ l. let f : r ≡ Spacing = cc (e, sides-refused d h l) in rw f (sym (side-refused d below h l)))
+
+  both-taken : (s : Sides) → Ok s ≡ sides_answer d h →
+      (d * h ≤ one) × (s ≡ record { below = side_factor d true h; above = side_factor d false h })
+  both-taken s e =
+      by_order (d * h) one
+      (λ l. (l, cc (e, sides-accepted d h l)))
+      (λ l. let f : Ok s ≡ Err Spacing = e ∙ sym (sides-refused d h l) in absurd cc)
+
+  pub below-of-both : (s : Sides) → Ok s ≡ sides_answer d h → answered s.below ≡ side_answer d true h
+  below-of-both s e = let t = both-taken s e in rw t.1 (sym (side-accepted d true h t.0))
+
+  pub above-of-both : (s : Sides) → Ok s ≡ sides_answer d h → answered s.above ≡ side_answer d false h
+  above-of-both s e = let t = both-taken s e in rw t.1 (sym (side-accepted d false h t.0))
 
 -- the answers by the signed number
 pub node-side : (j : ℤ) (h : ℕ) → node_answer j h ≡ side_answer (nat_abs j) (lt_z j (pos 0)) h
@@ -114,9 +143,12 @@ module _ (d h : ℕ) {y e o : ℕ} (same : y ≡ d * h) (l : y ≤ one) (p : e �
   unfolding series
   sums-above = side-found false (e - o) (rw (p, q) refl)
 
-  pub sums-both : record { number = 0; below = e + o; above = e - o } ≡ sides_answer d h
-  unfolding sides_answer
-  sums-both = rw (← sums-below, ← sums-above)
+  pub sums-both : Ok (record { below = e + o; above = e - o }) ≡ sides_answer d h
+  sums-both =
+      let within : d * h ≤ one = rw same at l in
+      let below : e + o ≡ side_factor d true h = ap (λ (x : Answer). x.value) (sums-below ∙ side-accepted d true h within) in
+      let above : e - o ≡ side_factor d false h = ap (λ (x : Answer). x.value) (sums-above ∙ side-accepted d false h within) in
+      rw (below, above) (sym (sides-accepted d h within))
 
   -- and neither the sum nor the difference leaves the type
   pub sums-fit : e + o ≤ 2720000000

@@ -1,10 +1,12 @@
 -- U(j), the factor of a node (document 01, Spacing and fit, second point), and the entries that answer it.
 -- Assumes nothing.
-use Rattle.std.specs.Prelude.{ℕ, ◌*◌, Bool, true, false, cond, ltb, ℤ, pos, nat_abs}
+use Rattle.std.specs.Prelude.{ℕ, ◌*◌, Bool, true, false, cond, ltb, ℤ, pos, nat_abs, Result, Ok, Err}
 use Rattle.std.specs.Int.Signed.{lt_z}
 use Rattle.arithmetic.specs.Rounding.{one}
 use Rattle.arithmetic.specs.Answers.{refused, answered}
 use Rattle.arithmetic.specs.declared.Answer.{Answer}
+use Rattle.arithmetic.specs.declared.Refusal.{Refusal}
+use Rattle.arithmetic.specs.declared.Refusal.TheVariants.{Spacing}
 use Rattle.factor.specs.declared.Sides.{Sides}
 use Rattle.factor.specs.Series.{term, exact_term, series}
 
@@ -27,11 +29,8 @@ side_factor distance below h = series below (term (distance * h))
 unfoldable pub side_answer : ℕ → Bool → ℕ → Answer
 side_answer distance below h = cond (ltb one (distance * h)) (refused 8) (answered (side_factor distance below h))
 
--- the answers of both sides of the middle node, together
-unfoldable pub sides_answer : ℕ → ℕ → Sides
+-- the factors of both sides of the middle node, together
+unfoldable pub sides_answer : ℕ → ℕ → Result Sides Refusal
 sides_answer distance h =
-    record {
-      number = (side_answer distance true h).number;
-      below = (side_answer distance true h).value;
-      above = (side_answer distance false h).value;
-    }
+    cond (ltb one (distance * h)) (Err Spacing)
+    (Ok (record { below = side_factor distance true h; above = side_factor distance false h }))

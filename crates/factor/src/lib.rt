@@ -2,12 +2,13 @@
 #![tactic(auto)]
 
 ghost use Rattle.std.specs.Prelude.{◌≡◌, ◌+◌, ◌*◌, ◌≤◌, ◌<◌, min};
+ghost use Rattle.arithmetic.specs.Refusals.{answer_of};
 ghost use Rattle.arithmetic.specs.Rounding.{one, round_down};
 ghost use Rattle.arithmetic.specs.Sum.{sum};
 ghost use Rattle.factor.specs.Series.{term, even, odd};
 ghost use Rattle.factor.specs.Factor.{side_answer, sides_answer, node_answer};
 
-use arithmetic::{Answer, ONE};
+use arithmetic::{ONE, Refusal};
 
 fn next_term(last: u64, y: u64, divisor: u64) -> u64
     requires { (last ≤ one) × (y ≤ one) × (0 < divisor) }
@@ -30,13 +31,11 @@ fn series_sums(y: u64) -> Sums
     let mut last = ONE;
     let mut even = ONE;
     let mut odd: u64 = 0;
-    let mut pair: u64 = 0;
-    while pair < 6 {
+    for pair in 0..6u64 {
         let next = next_term(last, y, (2 * pair + 1) * ONE);
         last = next_term(next, y, (2 * pair + 2) * ONE);
         odd += next;
         even += last;
-        pair += 1;
     }
     Sums { even, odd }
 }
@@ -45,73 +44,45 @@ fn series_sums(y: u64) -> Sums
 fn bounded_product(distance: u64, spacing: u64) -> u64
     ensures { result ≡ min (distance * spacing) (one + 1) }
 {
-    if distance == 0 {
-        return 0;
-    }
-    if spacing == 0 {
-        return 0;
-    }
-    if ONE < distance {
-        return ONE + 1;
-    }
-    if ONE < spacing {
-        return ONE + 1;
-    }
-    let product = distance * spacing;
-    if ONE < product {
-        return ONE + 1;
-    }
-    product
+    distance.saturating_mul(spacing).min(ONE + 1)
 }
 
-// The factors of the two nodes at a distance from the middle one; a refusal's number with zeros.
-#[derive(Drop)]
+// The factors of the two nodes at a distance from the middle one.
+#[derive(Clone, Copy, Debug, PartialEq, Eq)]
 pub struct Sides {
-    pub number: u64,
     pub below: u64,
     pub above: u64,
 }
 
-// The factors at a distance, below the middle node and above it, from one series; refuses with 8.
-pub fn both_sides(distance: u64, spacing: u64) -> Sides
+// The factors at a distance, below the middle node and above it, from one series.
+pub fn both_sides(distance: u64, spacing: u64) -> Result<Sides, Refusal>
     ensures { result ≡ sides_answer distance spacing }
 {
     let y = bounded_product(distance, spacing);
     if ONE < y {
-        return Sides {
-            number: 8,
-            below: 0,
-            above: 0,
-        };
+        return Err(Refusal::Spacing);
     }
     let sums = series_sums(y);
-    Sides {
-        number: 0,
+    Ok(Sides {
         below: sums.even + sums.odd,
         above: sums.even - sums.odd,
-    }
+    })
 }
 
-// The factor of the node at a distance from the middle one, below it or not; refuses with 8.
-pub fn factor(distance: u64, below: bool, spacing: u64) -> Answer
-    ensures { result ≡ side_answer distance below spacing }
+// The factor of the node at a distance from the middle one, below it or not.
+pub fn factor(distance: u64, below: bool, spacing: u64) -> Result<u64, Refusal>
+    ensures { answer_of result ≡ side_answer distance below spacing }
 {
-    let sides = both_sides(distance, spacing);
+    let sides = both_sides(distance, spacing)?;
     if below {
-        return Answer {
-            number: sides.number,
-            value: sides.below,
-        };
+        return Ok(sides.below);
     }
-    Answer {
-        number: sides.number,
-        value: sides.above,
-    }
+    Ok(sides.above)
 }
 
-// The factor of a node by its signed number; refuses with 8.
-pub fn factor_of_node(node: i64, spacing: u64) -> Answer
-    ensures { result ≡ node_answer node spacing }
+// The factor of a node by its signed number.
+pub fn factor_of_node(node: i64, spacing: u64) -> Result<u64, Refusal>
+    ensures { answer_of result ≡ node_answer node spacing }
 {
     if node < 0 {
         // The lowest number has no opposite: its size less one is taken first.

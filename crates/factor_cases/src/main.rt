@@ -1,7 +1,7 @@
 // Spacings and factors, held against figures that were worked out apart in exact fractions.
 #![tactic(auto)]
 
-use arithmetic::Answer;
+use arithmetic::{Answer, Refusal};
 
 const HIGHEST: u64 = 18_446_744_073_709_551_615;
 
@@ -16,7 +16,9 @@ fn show_number(number: u64) {
     io::print_decimal(1, number);
 }
 
-fn show_answer(answer: Answer) {
+// The number of a refusal or 0, then the value or 0.
+fn show_answer(outcome: Result<u64, Refusal>) {
+    let answer = Answer::from(outcome);
     show_number(answer.number);
     show_number(answer.value);
 }
@@ -49,8 +51,8 @@ fn show_factor(distance: u64, below: bool, node: i64, spacing: u64) {
 fn show_steps(steps: u64, half_width: u64) {
     io::write_all(1, b"steps");
     show_number(steps);
-    let widest = factor::factor(half_width, false, spacing::spacing(1, 50_000).value);
-    show_number(widest.number);
+    let spaced = spacing::spacing(1, 50_000).unwrap_or(0);
+    show_number(arithmetic::cause(factor::factor(half_width, false, spaced)));
     io::write_all(1, b"\n");
 }
 

@@ -13,7 +13,7 @@ use mir.Syntax.{w64}
 use mir.Val.{to_z, of_z}
 use mir.Facts.{to_z-of_z}
 use Rattle.arithmetic.proofs.Signed.{fits-by-size}
-use Rattle.figure.specs.declared.Figure.{Figure}
+use Rattle.figure.specs.Figure.{Figure}
 use Rattle.figure.specs.Figure.{magnitude_of, negative, beyond, signed, billionths_of, figure_of, refused_figure, accepted_figure, pattern_float}
 use Rattle.figure.proofs.Patterns.{accepted-field, accepted-sign, magnitude-bound, field_of}
 

@@ -1,11 +1,17 @@
 -- What a quoted figure is in billionths (document 01, Quotes). A float is `fin s m e`: its significand m times 2 ^ e, negative where s is
 -- true; 2 ^ e is the fraction up e / down e.
 -- Assumes nothing.
-use Rattle.std.specs.Prelude.{ℕ, ◌*◌, Bool, true, false, cond, ltb, ℤ, pos, neg_ℤ, Float}
+use Rattle.std.specs.Prelude.{ℕ, ◌*◌, Bool, true, false, cond, ltb, ℤ, pos, neg_ℤ, Float, Result, Ok, Err}
 use Rattle.std.specs.Float.{nan, inf, fin, binary64}
 use Rattle.std.specs.Float.Ieee.{up, down, of_bits, is_nan}
 use Rattle.arithmetic.specs.Rounding.{one, nearest}
-use Rattle.figure.specs.declared.Figure.{Figure}
+use Rattle.arithmetic.specs.Refusals.{number_of}
+use Rattle.arithmetic.specs.declared.Refusal.{Refusal}
+
+-- a signed number of billionths with number 0, or the number of a refusal with zero
+pub record Figure : Type 0 where
+  pub number : ℕ
+  pub value : ℤ
 
 -- the exact binary value's size times one, to the nearest whole number
 unfoldable pub magnitude_of : Float → ℕ
@@ -41,6 +47,11 @@ refused_figure = record { number = 7; value = pos 0 }
 
 abbrev pub accepted_figure : ℤ → Figure
 accepted_figure z = record { number = 0; value = z }
+
+-- billionths that may be refused, as such an answer
+abbrev pub figure_given : Result ℤ Refusal → Figure
+figure_given (Ok value) = accepted_figure value
+figure_given (Err refusal) = record { number = number_of refusal; value = pos 0 }
 
 -- the answer to a float
 unfoldable pub figure_of : Float → Figure

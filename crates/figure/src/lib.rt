@@ -5,14 +5,9 @@ ghost use Rattle.std.specs.Prelude.{◌≡◌, ◌*◌, ◌/◌, ◌%◌, ◌^�
 ghost use Rattle.std.specs.Float.{binary64};
 ghost use Rattle.std.specs.Float.Ieee.{of_bits};
 ghost use Rattle.arithmetic.specs.Rounding.{one, nearest};
-ghost use Rattle.figure.specs.Figure.{magnitude_of, beyond, figure_of, pattern_float};
+ghost use Rattle.figure.specs.Figure.{magnitude_of, beyond, figure_given, figure_of, pattern_float};
 
-// Number 0 with the signed value in billionths, or refusal 7 with value 0.
-#[derive(Drop)]
-pub struct Figure {
-    pub number: u64,
-    pub value: i64,
-}
+use arithmetic::Refusal;
 
 // significand × one / 2^shift, to the nearest. The product does not fit 64 bits, so the significand is split at 2^30. A shift above 84
 // leaves less than a half.
@@ -58,27 +53,18 @@ fn is_beyond(x: f64) -> bool
 }
 
 // The figure in billionths, to the nearest, a half going away from zero.
-pub fn billionths(x: f64) -> Figure
-    ensures { result ≡ figure_of x }
+pub fn billionths(x: f64) -> Result<i64, Refusal>
+    ensures { figure_given result ≡ figure_of x }
 {
     if is_beyond(x) {
-        return Figure {
-            number: 7,
-            value: 0,
-        };
+        return Err(Refusal::Quote);
     }
     let bits = f64::to_bits(x);
     let size = magnitude(bits);
     if bits < 0x8000_0000_0000_0000 {
-        return Figure {
-            number: 0,
-            value: size as i64,
-        };
+        return Ok(size as i64);
     }
-    Figure {
-        number: 0,
-        value: -(size as i64),
-    }
+    Ok(-(size as i64))
 }
 
 // The float with these bits, for a reader of bytes. No float is made of a NaN's pattern, so it gives an infinity, which is refused alike.

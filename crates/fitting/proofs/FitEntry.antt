@@ -31,13 +31,16 @@ use Rattle.spacing.proofs.VersionLaws.{version-zero, version-answer-most, answer
 use Rattle.limits.specs.Limits.{most_steps, most_reversion, is_steps, least_quote, most_quote}
 use Rattle.curve.specs.Curve.{discount_at, converts_at, in_place, curve_number, curve_memory}
 use Rattle.curve.proofs.CurveLaws.{curve-range, curve-stored}
-use Rattle.fitting.specs.declared.causes.Plan.{Plan}
 use Rattle.fitted_laws.specs.Fit.{curve_discount, curve_state_price, curve_accepted}
 use Rattle.fitting.specs.inside.TableFit.{rows_or_zeros, TreeFitted}
 use Rattle.fitting.specs.inside.Preconditions.{QuotesReady}
 use Rattle.fitted_laws.specs.Entry.{quotes_of, early_cause, late_cause, fitted_number, fit_memory, fit_discounts, fit_state_prices}
-use Rattle.fitting.specs.inside.Plans.{SpacingKnown, Planned}
+use Rattle.fitting.specs.inside.Plans.{SpacingKnown, PlanAnswer, Planned}
 use Rattle.fitted_laws.proofs.CauseLaws.{numbers_of}
+
+-- three answers as the clauses of an entry
+pub clauses : {A B C : Type 0} → A × (B × C) → record { number : A; discounted : B; priced : C }
+clauses w = record { number = w.0; discounted = w.1.0; priced = w.1.1 }
 
 -- causes 2 to 7 are at most 7
 chain-small : (a b c d : Bool) → cond a 2 (cond b 3 (cond c 6 (cond d 7 0))) ≤ 7
@@ -123,21 +126,21 @@ Answered f n b spaced h rows kinds figures d p r d' p' =
     × (p' ≡ fit_memory (fitted_number f n b spaced h rows kinds figures (length d) (length p)) (fit_state_prices f n b h kinds figures) p))
 
 -- what code holds once the quotes were converted and the plan was made: the plan, and the memory of the quotes
-pub record Prepared (f n b : ℕ) (spaced : Answer) (rows kinds : List ℕ) (figures : List Float) (d p : List ℕ) (plan : Plan) (after : List ℕ) : Type 0 where
+pub record Prepared (f n b : ℕ) (spaced : Answer) (rows kinds : List ℕ) (figures : List Float) (d p : List ℕ) (plan : PlanAnswer) (after : List ℕ) : Type 0 where
   pub spacing-known : SpacingKnown spaced
   pub planned : Planned n b (curve_number f n rows kinds figures most_steps) spaced.number spaced.value (length d) (length p) plan
   pub memory : List ℕ
   pub memory-length : length memory ≡ most_steps
   pub after_is : after ≡ curve_memory f n rows kinds figures memory
 
-pub prepared : {f n b : ℕ} {spaced : Answer} {rows kinds : List ℕ} {figures : List Float} {d p : List ℕ} {plan : Plan} {after : List ℕ} {converted : ℕ}
+pub prepared : {f n b : ℕ} {spaced : Answer} {rows kinds : List ℕ} {figures : List Float} {d p : List ℕ} {plan : PlanAnswer} {after : List ℕ} {converted : ℕ}
     (memory : List ℕ) → SpacingKnown spaced → length memory ≡ most_steps →
     converted ≡ curve_number f n rows kinds figures most_steps → after ≡ curve_memory f n rows kinds figures memory →
     Planned n b converted spaced.number spaced.value (length d) (length p) plan → Prepared f n b spaced rows kinds figures d p plan after
 prepared memory known room ec ea made =
     record { spacing-known = known; planned = rw ec at made; memory = memory; memory-length = room; after_is = ea }
 
-module _ {f n b : ℕ} {spaced : Answer} {rows kinds : List ℕ} {figures : List Float} {d p : List ℕ} {plan : Plan} {after : List ℕ}
+module _ {f n b : ℕ} {spaced : Answer} {rows kinds : List ℕ} {figures : List Float} {d p : List ℕ} {plan : PlanAnswer} {after : List ℕ}
     (k : Prepared f n b spaced rows kinds figures d p plan after) where
   abbrev early : ℕ
   early = early_cause (curve_number f n rows kinds figures most_steps) n b spaced.number (length d) (length p)

@@ -53,7 +53,8 @@ module _ {quote z next : ℕ} {state-prices factors downs : List ℕ} (ez : z �
         tested = er ∙ rw ez;
         filled = λ t. ed t ∙ rw ez;
         spreads = λ t. es t
-            ∙ ap (λ (m : ℕ). row m (incoming (row_transition downs m) (length state-prices) (carried (values state-prices) (λ k. quote * values factors k / z))))
+            ∙ ap (λ (m : ℕ). row m (incoming (row_transition downs m) (length state-prices)
+            (carried (values state-prices) (λ k. quote * values factors k / z))))
             (ap length ec ∙ length-row next (λ j. 0))
             ∙ rw ez;
       }

@@ -18,12 +18,19 @@ use Rattle.lattice.specs.Branching.{down_probability}
 use Rattle.lattice.specs.RateTree.{node_of_index, node, rate_tree}
 use Rattle.lattice.specs.Entries.{table_of, discounts_needed_answer, state_prices_needed_answer, table_offset}
 use Rattle.lattice.proofs.EntryLaws.{tree-found}
+use Rattle.lattice.proofs.TreeEntries.{tree-ok}
+use Rattle.lattice.specs.Entries.{about_tree, table_number}
+use Rattle.arithmetic.specs.Refusals.{cause_of, answer_of}
+use Rattle.arithmetic.proofs.RefusalLaws.{cause-ok}
 use Rattle.lattice.proofs.Differences.{sub_is, sub-size}
 use Rattle.lattice.proofs.RateTreeLaws.{same-node}
 use Rattle.lattice.proofs.TableLaws.{table_fits}
 use Rattle.factor.specs.declared.Sides.{Sides}
+use Rattle.std.proofs.Common.{Result, Ok}
+use Rattle.std.specs.Result.{IsOk}
+use Rattle.arithmetic.specs.declared.Refusal.{Refusal}
 use Rattle.factor.specs.Factor.{factor, side_answer, sides_answer}
-use Rattle.factor.proofs.FactorLaws.{index_below, index-above, side-accepted, nearer-within, factor-bounds}
+use Rattle.factor.proofs.FactorLaws.{index_below, index-above, side-accepted, nearer-within, factor-bounds, below-of-both, above-of-both, sides-ok}
 use Rattle.limits.specs.Limits.{most_steps, is_discount}
 use Rattle.fit_laws.specs.StatePrices.{accepted_row}
 use Rattle.fit_laws.proofs.WholeFit.{price-by, fitted-discount-by}
@@ -53,18 +60,21 @@ module _ (w k h : ℕ) (within : w * h ≤ one) where
       ap (λ (x : Answer). x.value) (side-accepted (k - w) false h (nearer-within (k - w) w h (omega arith) within))
       ∙ sym (index-above w k h l) ∙ ap (λ (j : ℤ). factor j h) (sym (sub_is k w))
 
-module _ (w d h : ℕ) {a : Sides} (within : w * h ≤ one) (near : d ≤ w) (e : a ≡ sides_answer d h) where
+pub sides-known : (w d h : ℕ) {r : Result Sides Refusal} → w * h ≤ one → d ≤ w → r ≡ sides_answer d h → IsOk r
+sides-known w d h within near e = sides-ok d h _ e (nearer-within d w h near within)
+
+module _ (w d h : ℕ) {a : Sides} (within : w * h ≤ one) (near : d ≤ w) (e : Ok a ≡ sides_answer d h) where
   pub below-side : 0 < d → a.below ≡ factors-at w h (w - d)
-  unfolding sides_answer
   below-side l =
       let back : d ≡ w - (w - d) = omega arith in
-      ap (λ (x : Sides). x.below) e ∙ ap (λ (x : ℕ). (side_answer x true h).value) back ∙ below-value w (w - d) h within (omega arith)
+      ap (λ (x : Answer). x.value) (below-of-both d h a e)
+      ∙ ap (λ (x : ℕ). (side_answer x true h).value) back ∙ below-value w (w - d) h within (omega arith)
 
   pub above-side : a.above ≡ factors-at w h (w + d)
-  unfolding sides_answer
   above-side =
       let back : d ≡ w + d - w = omega arith in
-      ap (λ (x : Sides). x.above) e ∙ ap (λ (x : ℕ). (side_answer x false h).value) back ∙ above-value w (w + d) h within (omega arith) (omega arith)
+      ap (λ (x : Answer). x.value) (above-of-both d h a e)
+      ∙ ap (λ (x : ℕ). (side_answer x false h).value) back ∙ above-value w (w + d) h within (omega arith) (omega arith)
 
 -- every node of a row has a factor within the bounds of the series
 table-bounds : (w k h : ℕ) → w * h ≤ one → k < 2 * w + 1 →
@@ -75,6 +85,14 @@ table-bounds w k h within l = factor-bounds (sub_ℕ k w) h (nearer-within (nat_
 -- the half width of row n − 1 is below the number of steps
 pub widest-small : {b h w : ℕ} {q : List ℕ} {ds ps : ℕ} → QuotesReady b h w q ds ps → w + 1 ≤ most_steps
 widest-small {b} {h} {w} {q} f = omega (arith, f.widest-is, f.limits.steps-positive, f.limits.steps-within-limit, half-within b (length q - 1))
+
+-- the table of down-probabilities of row n − 1 is not refused
+pub downs-ok : {A : Type 0} {b h w : ℕ} {q : List ℕ} {ds ps : ℕ} → QuotesReady b h w q ds ps → (downs : List ℕ) → length downs ≡ 2 * w + 1 →
+    (r : Result A Refusal) → cause_of r ≡ table_number b w (length downs) → IsOk r
+unfolding node_count
+downs-ok {b} {q} f downs long r e =
+    let row : length q - 1 ≤ 60 = omega (arith, f.limits.steps-within-limit) in
+    cause-ok r (e ∙ rw f.widest-is (table_fits b (length q - 1) downs f.limits.reversion-within-limit row (rw f.widest-is at long)).0)
 
 module _ {b h w : ℕ} {q : List ℕ} {ds ps : ℕ} (f : QuotesReady b h w q ds ps) {factors : List ℕ} (count : ℕ) (long : count ≡ 2 * w + 1)
     (ef : factors ≡ row count (λ k. factor (node_of_index w k) h)) where
@@ -154,6 +172,9 @@ module _ {b n : ℕ} {factors downs : List ℕ} (t : Tables b n factors downs) w
   pub needed-discounts : {a : Answer} → a ≡ discounts_needed_answer n b → a.value ≡ row_start b n
   unfolding discounts_needed
   needed-discounts e = ap (λ (x : Answer). x.value) (e ∙ tree-found n b _ nonzero t.limits.steps-within-limit t.limits.reversion-within-limit)
+
+  pub tree-known : (x : ℕ) (r : Result ℕ Refusal) → answer_of r ≡ about_tree n b x → IsOk r
+  tree-known x r e = tree-ok n b x r e t.limits
 
   pub needed-state-prices : {a : Answer} → a ≡ state_prices_needed_answer n b → a.value ≡ row_start b (suc n)
   unfolding state_prices_needed

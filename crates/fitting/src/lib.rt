@@ -8,6 +8,7 @@ mod tables;
 
 ghost use Rattle.std.specs.Prelude.{◌≡◌, length};
 ghost use Rattle.fitting.specs.inside.Plans.{SpacingKnown};
+ghost use Rattle.arithmetic.specs.Refusals.{cause_of, answer_of};
 ghost use Rattle.fitted_laws.specs.Entry.{
   fitted_number,
   fit_memory,
@@ -21,7 +22,7 @@ ghost use Rattle.fitted_laws.specs.Entry.{
   version_state_prices_after,
 };
 
-use arithmetic::Answer;
+use arithmetic::Refusal;
 use tables::Grid;
 
 // Fits a tree of a working reversion and a spacing.
@@ -29,22 +30,22 @@ fn fit_tree(
     frequency: u64,
     steps: usize,
     reversion: u64,
-    spaced: Answer,
+    spaced: Result<u64, Refusal>,
     rows: &[u64],
     kinds: &[u8],
     figures: &[f64],
     discounts: &mut [u64],
     state_prices: &mut [u64],
-) -> u64
-    requires { SpacingKnown spaced }
-    ensures number { result ≡ fitted_number frequency steps reversion spaced.number spaced.value
+) -> Result<(), Refusal>
+    requires { SpacingKnown (answer_of spaced) }
+    ensures number { cause_of result ≡ fitted_number frequency steps reversion (answer_of spaced).number (answer_of spaced).value
         rows.now kinds.now figures.now (length discounts.old) (length state_prices.old) }
-    ensures discounted { discounts.new ≡ fit_memory (fitted_number frequency steps reversion spaced.number spaced.value
+    ensures discounted { discounts.new ≡ fit_memory (fitted_number frequency steps reversion (answer_of spaced).number (answer_of spaced).value
         rows.now kinds.now figures.now (length discounts.old) (length state_prices.old))
-        (fit_discounts frequency steps reversion spaced.value kinds.now figures.now) discounts.old }
-    ensures priced { state_prices.new ≡ fit_memory (fitted_number frequency steps reversion spaced.number spaced.value
+        (fit_discounts frequency steps reversion (answer_of spaced).value kinds.now figures.now) discounts.old }
+    ensures priced { state_prices.new ≡ fit_memory (fitted_number frequency steps reversion (answer_of spaced).number (answer_of spaced).value
         rows.now kinds.now figures.now (length discounts.old) (length state_prices.old))
-        (fit_state_prices frequency steps reversion spaced.value kinds.now figures.now) state_prices.old }
+        (fit_state_prices frequency steps reversion (answer_of spaced).value kinds.now figures.now) state_prices.old }
 {
     let mut quotes = [0u64; limits::MOST_STEPS];
     let converted = curve::convert(frequency, steps, rows, kinds, figures, &mut quotes);
@@ -55,10 +56,7 @@ fn fit_tree(
         converted,
         discounts.len(),
         state_prices.len(),
-    );
-    if plan.number != 0 {
-        return plan.number;
-    }
+    )?;
     let grid = Grid {
         reversion: reversion,
         spacing: plan.spacing,
@@ -80,8 +78,8 @@ pub fn fit(
     figures: &[f64],
     discounts: &mut [u64],
     state_prices: &mut [u64],
-) -> u64
-    ensures number { result ≡ fit_number frequency steps reversion volatility rows.now kinds.now figures.now
+) -> Result<(), Refusal>
+    ensures number { cause_of result ≡ fit_number frequency steps reversion volatility rows.now kinds.now figures.now
         (length discounts.old) (length state_prices.old) }
     ensures discounted { discounts.new ≡ discounts_after frequency steps reversion volatility
         rows.now kinds.now figures.now discounts.old state_prices.old }
@@ -115,8 +113,8 @@ pub fn fit_version(
     figures: &[f64],
     discounts: &mut [u64],
     state_prices: &mut [u64],
-) -> u64
-    ensures number { result ≡ version_number version frequency steps reversion volatility
+) -> Result<(), Refusal>
+    ensures number { cause_of result ≡ version_number version frequency steps reversion volatility
         rows.now kinds.now figures.now (length discounts.old) (length state_prices.old) }
     ensures discounted { discounts.new ≡ version_discounts_after version frequency steps reversion volatility
         rows.now kinds.now figures.now discounts.old state_prices.old }

@@ -112,18 +112,16 @@ pub(crate) fn fit_rows(
 {
     state_prices[0] = arithmetic::ONE;
     let steps = quotes.len();
-    let mut row: usize = 0;
-    while row < steps {
+    for (row, quote) in quotes.iter().enumerate() {
         let at = TreePlace {
             reversion: reversion,
             steps: steps,
             row: row,
-            quote: quotes[row],
+            quote: *quote,
         };
         if !tree_row(at, factors, downs, discounts, state_prices, sums) {
             return false;
         }
-        row += 1;
     }
     true
 }

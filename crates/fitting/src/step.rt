@@ -21,10 +21,8 @@ pub(crate) fn normaliser_of(state_prices: &[u64], factors: &[u64]) -> u64
     ensures { result ≡ normaliser (length state_prices.now) (values state_prices.now) (values factors.now) }
 {
     let mut total: u64 = 0;
-    let mut k: usize = 0;
-    while k < state_prices.len() {
-        total += state_prices[k] * factors[k];
-        k += 1;
+    for (price, factor) in state_prices.iter().zip(factors) {
+        total += *price * *factor;
     }
     total / ONE
 }
@@ -32,11 +30,7 @@ pub(crate) fn normaliser_of(state_prices: &[u64], factors: &[u64]) -> u64
 pub(crate) fn clear(next: &mut [u64])
     ensures { next.new ≡ row (length next.old) (λ j. 0) }
 {
-    let mut k: usize = 0;
-    while k < next.len() {
-        next[k] = 0;
-        k += 1;
-    }
+    next.fill(0);
 }
 
 fn add_at(next: &mut [u64], at: usize, amount: u64)
@@ -90,15 +84,13 @@ fn fill_row(
         (incoming (row_transition downs.now (length sums.old)) (length state_prices.now)
         (carried (values state_prices.now) (λ k. quote * values factors.now k / z))) }
 {
-    let mut k: usize = 0;
-    while k < state_prices.len() {
+    for k in 0..state_prices.len() {
         let discount = quote * factors[k] / z;
         if !limits::is_discount(discount) {
             return false;
         }
         discounts[k] = discount;
         spread_node(downs, k, state_prices[k] * discount / ONE, sums);
-        k += 1;
     }
     true
 }
@@ -108,10 +100,8 @@ pub(crate) fn divide(sums: &[u64], next: &mut [u64])
     requires { length sums.now ≡ length next.old }
     ensures { next.new ≡ row (length next.old) (λ j. values sums.now j / probability_total) }
 {
-    let mut k: usize = 0;
-    while k < next.len() {
-        next[k] = sums[k] / PROBABILITY_TOTAL;
-        k += 1;
+    for (k, place) in next.iter_mut().enumerate() {
+        *place = sums[k] / PROBABILITY_TOTAL;
     }
 }
 

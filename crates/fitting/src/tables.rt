@@ -1,6 +1,7 @@
 // The tables of a tree, worked out once for each node index, and the fit from them.
 ghost use Rattle.std.specs.Prelude.{◌≡◌, cond, ◌++◌, ◌+◌, ◌*◌, ◌≤◌, length, drop};
 ghost use Rattle.arithmetic.specs.Rounding.{one};
+ghost use Rattle.arithmetic.specs.Refusals.{cause_of};
 ghost use Rattle.arithmetic.specs.Row.{row};
 ghost use Rattle.limits.specs.Limits.{most_steps, most_nodes};
 ghost use Rattle.lattice.specs.RateTree.{node_of_index};
@@ -10,6 +11,7 @@ ghost use Rattle.fitted_laws.specs.Fit.{curve_accepted, curve_discount, curve_st
 ghost use Rattle.fitting.specs.inside.TableFit.{table_discount, table_state_price, table_accepted, TreeFitted, FitTried};
 
 use crate::{rows, step};
+use arithmetic::Refusal;
 
 // A tree's reversion, the spacing of its nodes, and the half width of its widest row that has discounts.
 #[derive(Drop)]
@@ -24,12 +26,10 @@ fn fill_factors(widest: usize, spacing: u64, factors: &mut [u64])
     requires { (widest ≤ most_steps) × (widest * spacing ≤ one) × (length factors.old ≡ 2 * widest + 1) }
     ensures { factors.new ≡ row (length factors.old) (λ k. factor (node_of_index widest k) spacing) }
 {
-    let mut distance: usize = 0;
-    while distance <= widest {
-        let sides = factor::both_sides(distance as u64, spacing);
+    for distance in 0..widest + 1 {
+        let sides = factor::both_sides(distance as u64, spacing).unwrap();
         factors[widest - distance] = sides.below;
         factors[widest + distance] = sides.above;
-        distance += 1;
     }
 }
 
@@ -56,8 +56,8 @@ fn fit_or_clear(
         discounts.old state_prices.old discounts.new state_prices.new result }
 {
     let steps = quotes.len();
-    let needed = lattice::discounts_needed(steps, reversion);
-    let all = lattice::state_prices_needed(steps, reversion);
+    let needed = lattice::discounts_needed(steps, reversion).unwrap() as usize;
+    let all = lattice::state_prices_needed(steps, reversion).unwrap() as usize;
     if rows::fit_rows(
         reversion,
         quotes,
@@ -69,8 +69,8 @@ fn fit_or_clear(
     ) {
         return true;
     }
-    clear_front(discounts, needed.value as usize);
-    clear_front(state_prices, all.value as usize);
+    clear_front(discounts, needed);
+    clear_front(state_prices, all);
     false
 }
 
@@ -92,7 +92,7 @@ fn fit_tables(
         discounts.old state_prices.old discounts.new state_prices.new result }
 {
     fill_factors(grid.widest, grid.spacing, factors);
-    branches::down_probabilities(grid.reversion, grid.widest, downs);
+    branches::down_probabilities(grid.reversion, grid.widest, downs).unwrap();
     fit_or_clear(
         grid.reversion,
         quotes,
@@ -104,15 +104,15 @@ fn fit_tables(
     )
 }
 
-// The fit of converted quotes once causes 2 to 8 were tested: 0 or 9.
+// The fit of converted quotes once causes 2 to 8 were tested: a node discount may be refused.
 pub(crate) fn fit_quotes(
     grid: Grid,
     quotes: &[u64],
     discounts: &mut [u64],
     state_prices: &mut [u64],
-) -> u64
+) -> Result<(), Refusal>
     requires { QuotesReady grid.reversion grid.spacing grid.widest quotes.now (length discounts.old) (length state_prices.old) }
-    ensures number { result ≡ cond (curve_accepted grid.reversion grid.spacing quotes.now) 0 9 }
+    ensures number { cause_of result ≡ cond (curve_accepted grid.reversion grid.spacing quotes.now) 0 9 }
     ensures fitted { TreeFitted grid.reversion (length quotes.now)
         (curve_accepted grid.reversion grid.spacing quotes.now)
         (curve_discount grid.reversion grid.spacing quotes.now) (curve_state_price grid.reversion grid.spacing quotes.now)
@@ -131,8 +131,8 @@ pub(crate) fn fit_quotes(
         state_prices,
         &mut sums,
     ) {
-        0
+        Ok(())
     } else {
-        9
+        Err(Refusal::Discount)
     }
 }

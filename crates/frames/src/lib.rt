@@ -23,7 +23,7 @@ pub fn input_room() -> [u8; 262144]
 fn size_of(high: u8, low: u8) -> usize
     ensures { result ≡ high * 256 + low }
 {
-    high as usize * 256 + low as usize
+    usize::from(high) * 256 + usize::from(low)
 }
 
 fn no_frame() -> Frame

@@ -16,10 +16,6 @@ fn write_number(value: u64) {
     io::print_decimal(1, value);
 }
 
-fn wide(x: u8) -> u64 {
-    x as u64
-}
-
 fn show_head(
     number: u64,
     frequency: u64,
@@ -40,7 +36,7 @@ fn show_head(
 
 fn show_row(kind: u8, figure: u64, flow: u64) {
     write(b"row");
-    write_number(wide(kind));
+    write_number(u64::from(kind));
     write_number(figure);
     write_number(flow);
     write(b"\n");
@@ -49,18 +45,14 @@ fn show_row(kind: u8, figure: u64, flow: u64) {
 fn show_rows(kinds: &[u8], figures: &[u64], flows: &[u64])
     requires { (length figures.now ≡ length kinds.now) × (length flows.now ≡ length kinds.now) }
 {
-    let mut i = 0usize;
-    while i < kinds.len() {
+    for i in 0..kinds.len() {
         show_row(kinds[i], figures[i], flows[i]);
-        i += 1;
     }
 }
 
 fn show_dates(dates: &[u8]) {
-    let mut i = 0usize;
-    while i < dates.len() {
-        write_number(wide(dates[i]));
-        i += 1;
+    for date in dates {
+        write_number(u64::from(*date));
     }
 }
 
@@ -121,13 +113,11 @@ fn show_next(input: &[u8], at: usize) -> usize {
 // There are fewer frames than bytes.
 fn show_all(input: &[u8]) {
     let mut at = 0usize;
-    let mut left = input.len();
-    while 0 < left {
+    for _ in 0..input.len() {
         at = show_next(input, at);
         if at == 0 {
             return;
         }
-        left -= 1;
     }
 }
 

@@ -45,13 +45,11 @@ fn copy_next(input: &[u8], at: usize, room: &mut [u8]) -> usize {
 // There are fewer frames than bytes.
 fn copy_all(input: &[u8], room: &mut [u8]) {
     let mut at = 0usize;
-    let mut left = input.len();
-    while 0 < left {
+    for _ in 0..input.len() {
         at = copy_next(input, at, room);
         if at == 0 {
             return;
         }
-        left -= 1;
     }
 }
 

@@ -14,7 +14,8 @@ use Rattle.figure.specs.Figure.{pattern_float}
 
 -- ---- rows 1 to n
 
-pub rows-filled : (l₀ l : List ℕ) (count i : ℕ) (f : ℕ → ℕ) → Filled l₀ l f i → i ≡ count → count ≤ length l₀ → take count l ≡ row count f
+pub rows-filled : (l₀ l : List ℕ) (count i : ℕ) (f : ℕ → ℕ) →
+    Filled l₀ l f i → i ≡ count → count ≤ length l₀ → take count l ≡ row count f
 rows-filled l₀ l count i f p e h =
     row_of (take count l) count f (simp length-take (omega (arith, p.same)))
     (λ k below. rw get_or-take (p.done k (omega arith)))
@@ -34,13 +35,15 @@ take-set [] i x h = let none : ⊥ = omega arith in absurd none
 take-set (y ∷ l) zero x h = refl
 take-set (y ∷ l) (suc i) x h = ap (λ t. y ∷ t) (take-set l i x (omega arith))
 
-take-map : (l : List ℕ) (i : ℕ) → i < length l → map pattern_float (take (suc i) l) ≡ map pattern_float (take i l) ++ (pattern_float (get_or l i 0) ∷ [])
+take-map : (l : List ℕ) (i : ℕ) → i < length l →
+    map pattern_float (take (suc i) l) ≡ map pattern_float (take i l) ++ (pattern_float (get_or l i 0) ∷ [])
 take-map [] i h = let none : ⊥ = omega arith in absurd none
 take-map (y ∷ l) zero h = refl
 take-map (y ∷ l) (suc i) h = ap (λ t. pattern_float y ∷ t) (take-map l i (omega arith))
 
 pub figured-next : (patterns : List ℕ) (l₀ l : List Float) (i : ℕ) (x : Float) →
-    Figured patterns l₀ l i → i < length patterns → i < length l₀ → x ≡ pattern_float (get_or patterns i 0) → Figured patterns l₀ (set l i x) (i + 1)
+    Figured patterns l₀ l i → i < length patterns → i < length l₀ → x ≡ pattern_float (get_or patterns i 0) →
+    Figured patterns l₀ (set l i x) (i + 1)
 figured-next patterns l₀ l i x p h g e =
     record {
       same = length-set l i x ∙ p.same;

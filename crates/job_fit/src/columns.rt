@@ -18,42 +18,26 @@ fn no_figures() -> [f64; MOST_STEPS]
     [0.0; MOST_STEPS]
 }
 
-fn fill_rows(rows: &mut [u64], count: usize)
-    requires { count ≤ length rows.old }
-    ensures { take count rows.new ≡ row count (λ k. k + 1) }
-{
-    let mut index = 0usize;
-    while index < count {
-        rows[index] = (index + 1) as u64;
-        index += 1;
-    }
-}
-
-fn fill_figures(patterns: &[u64], figures: &mut [f64], count: usize)
-    requires { (count ≤ length patterns.now) × (count ≤ length figures.old) }
-    ensures { take count figures.new ≡ map pattern_float (take count patterns.now) }
-{
-    let mut index = 0usize;
-    while index < count {
-        figures[index] = figure::of_pattern(patterns[index]);
-        index += 1;
-    }
-}
-
+// Rows 1 to `count`, zeros after them.
 pub(crate) fn rows_of(count: usize) -> [u64; MOST_STEPS]
     requires { count ≤ most_job_steps }
     ensures { (length result ≡ most_job_steps) × (take count result ≡ row count (λ k. k + 1)) }
 {
     let mut rows = no_rows();
-    fill_rows(&mut rows, count);
+    for (index, row) in rows[..count].iter_mut().enumerate() {
+        *row = (index + 1) as u64;
+    }
     rows
 }
 
+// The floats of the first `count` patterns, zeros after them.
 pub(crate) fn figures_of(patterns: [u64; MOST_STEPS], count: usize) -> [f64; MOST_STEPS]
     requires { count ≤ most_job_steps }
     ensures { (length result ≡ most_job_steps) × (take count result ≡ map pattern_float (take count patterns)) }
 {
     let mut figures = no_figures();
-    fill_figures(&patterns, &mut figures, count);
+    for (index, pattern) in patterns[..count].iter().enumerate() {
+        figures[index] = figure::of_pattern(*pattern);
+    }
     figures
 }

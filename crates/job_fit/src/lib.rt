@@ -4,6 +4,7 @@
 mod columns;
 
 ghost use Rattle.std.specs.Prelude.{◌≡◌, length};
+ghost use Rattle.arithmetic.specs.Refusals.{cause_of};
 ghost use Rattle.fitted_laws.specs.Entry.{fit_memory};
 ghost use Rattle.job_laws.specs.RecordFit.{
   meant_version,
@@ -16,6 +17,7 @@ ghost use Rattle.job_laws.specs.RecordFit.{
   memory_after,
 };
 
+use arithmetic::Refusal;
 use job_record::Job;
 
 // The version that a record means, with 0 where it has none.
@@ -34,13 +36,13 @@ pub fn meant_reversion(version: u64, reversion: u64) -> u64
 
 // The quoted discounts of rows 1 to n at the start of the lent memory. 1 a record with more than 255 steps; then the causes of the conversion.
 // A refusal leaves the memory as it was.
-pub fn quotes_of_record(job: Job, quotes: &mut [u64]) -> u64
-    ensures number { result ≡ record_quotes job (length quotes.old) }
+pub fn quotes_of_record(job: Job, quotes: &mut [u64]) -> Result<(), Refusal>
+    ensures number { cause_of result ≡ record_quotes job (length quotes.old) }
     ensures memory { quotes.new ≡ memory_after (record_quotes job (length quotes.old)) (job_quotes job) quotes.old }
 {
     let steps = job.steps;
     if steps > job_record::MOST_STEPS {
-        return 1;
+        return Err(Refusal::Job);
     }
     let kinds = job.kinds;
     let patterns = job.figures;
@@ -58,8 +60,12 @@ pub fn quotes_of_record(job: Job, quotes: &mut [u64]) -> u64
 
 // The fit of a record, at the start of both lent memories. 1 a record with more than 255 steps; then the causes of the fit, which leave
 // the memories as the fit does.
-pub fn fit_of_record(job: Job, discounts: &mut [u64], state_prices: &mut [u64]) -> u64
-    ensures number { result ≡ record_fit job (length discounts.old) (length state_prices.old) }
+pub fn fit_of_record(
+    job: Job,
+    discounts: &mut [u64],
+    state_prices: &mut [u64],
+) -> Result<(), Refusal>
+    ensures number { cause_of result ≡ record_fit job (length discounts.old) (length state_prices.old) }
     ensures discounted { discounts.new ≡ fit_memory
         (record_fit job (length discounts.old) (length state_prices.old))
         (job_discounts job) discounts.old }
@@ -69,7 +75,7 @@ pub fn fit_of_record(job: Job, discounts: &mut [u64], state_prices: &mut [u64]) 
 {
     let steps = job.steps;
     if steps > job_record::MOST_STEPS {
-        return 1;
+        return Err(Refusal::Job);
     }
     let kinds = job.kinds;
     let patterns = job.figures;

@@ -318,14 +318,14 @@ module _ (job : Job) (lent-d lent-p : List ℕ) where
       own-fit : record_fit job (length d₀) (length p₀) ≡ 0
       own-fit = ap (λ (k : ℕ). record_fit job k (length p₀)) ld ∙ ap (record_fit job most_discounts) lp ∙ (record-accepted job _ _ none).fit
 
+      pub tree-within : WithinLimits job.steps (job_reversion job)
+      tree-within = fits.accepted job _ _ own-fit
+
       own-placed : (rows memory after : List ℕ) → after ≡ fitted_memory job (length d₀) (length p₀) rows memory → after ≡ place memory 0 rows
       own-placed rows memory after e = e ∙ fitted-placed job _ _ (record-formed job _ _ none) own-fit rows memory
 
       module _ (b : ℕ) (eb : b ≡ job_reversion job) (needed all : Answer) (en : needed ≡ discounts_needed_answer job.steps b)
           (ea : all ≡ state_prices_needed_answer job.steps b) where
-        tree-within : WithinLimits job.steps (job_reversion job)
-        tree-within = fits.accepted job _ _ own-fit
-
         discounts-size : length (job_discounts job) ≡ needed.value
         discounts-size = fits.discounts-length job ∙ sym (tree-value _ _ _ needed (en ∙ ap (discounts_needed_answer job.steps) eb) tree-within)
 

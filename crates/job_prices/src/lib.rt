@@ -23,22 +23,20 @@ pub fn prices_in_place(job: Job, discounts: &mut [u64], state_prices: &mut [u64]
         (length discounts.old) (length state_prices.old) (job_state_prices job) state_prices.old }
 {
     let option = job.option;
-    let form = priced::option_form(option.tag, option.count);
-    if form != 0 {
-        return priced::refused(form);
+    if let Err(refusal) = priced::option_form(option.tag, option.count) {
+        return priced::refused(refusal.number());
     }
-    let fitted = job_fit::fit_of_record(job, discounts, state_prices);
-    if fitted != 0 {
-        return priced::refused(fitted);
+    if let Err(refusal) = job_fit::fit_of_record(job, discounts, state_prices) {
+        return priced::refused(refusal.number());
     }
     let steps = job.steps;
     let reversion = job_fit::meant_reversion(job.version, job.reversion);
     let flows = job.flows;
-    let count = lattice::discounts_needed(steps, reversion);
+    let count = lattice::discounts_needed(steps, reversion).unwrap();
     priced::tree_prices(
         steps,
         reversion,
-        &discounts[..count.value as usize],
+        &discounts[..count as usize],
         &flows[..steps],
         option,
     )
@@ -56,7 +54,7 @@ pub fn prices_of_record(job: Job, discounts: &mut [u64], state_prices: &mut [u64
     let steps = job.steps;
     let working = job_fit::meant_reversion(job.version, job.reversion);
     let memory = lattice::memory_cause(steps, working, discounts.len(), state_prices.len());
-    if memory != 0 {
+    if memory.is_err() {
         return prices_in_place(job, discounts, state_prices);
     }
     let mut fitted_discounts = limits::discount_room();
@@ -65,13 +63,10 @@ pub fn prices_of_record(job: Job, discounts: &mut [u64], state_prices: &mut [u64
     if prices.number != 0 {
         return prices;
     }
-    let discount_count = lattice::discounts_needed(steps, working);
-    let price_count = lattice::state_prices_needed(steps, working);
-    memories::place(
-        &fitted_discounts[..discount_count.value as usize],
-        discounts,
-    );
-    memories::place(&fitted_prices[..price_count.value as usize], state_prices);
+    let discount_count = lattice::discounts_needed(steps, working).unwrap();
+    let price_count = lattice::state_prices_needed(steps, working).unwrap();
+    memories::place(&fitted_discounts[..discount_count as usize], discounts);
+    memories::place(&fitted_prices[..price_count as usize], state_prices);
     prices
 }
 

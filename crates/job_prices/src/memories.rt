@@ -7,9 +7,5 @@ pub(crate) fn place(part: &[u64], memory: &mut [u64])
     requires { length part.now ≤ length memory.old }
     ensures { memory.new ≡ rows.place memory.old 0 part.now }
 {
-    let mut index = 0usize;
-    while index < part.len() {
-        memory[index] = part[index];
-        index += 1;
-    }
+    memory[..part.len()].copy_from_slice(part);
 }

@@ -1,10 +1,12 @@
 // The prices of a tree whose discounts are lent.
 ghost use Rattle.std.specs.Prelude.{◌≡◌, ◌≤◌};
+ghost use Rattle.arithmetic.specs.Refusals.{cause_of};
 ghost use Rattle.job_record.specs.Form.{most_dates};
 ghost use Rattle.price_laws.specs.Prices.{bond_price};
 ghost use Rattle.job_laws.specs.JobPrices.{refused_prices, prices_of, option_form, tagged_option};
 ghost use Rattle.job_laws.specs.inside.TreePrices.{tree_prices};
 
+use arithmetic::Refusal;
 use job_laws::JobPrices;
 use job_record::OptionRecord;
 use price_laws::{BondAndOption, Price};
@@ -44,23 +46,23 @@ fn prices_of(number: u64, bond: Price, has_option: bool, option: Price) -> JobPr
     }
 }
 
-// The cause about the form of a record's option: 1 for a tag or a number of dates that no job's bytes give.
-pub(crate) fn option_form(tag: u64, count: usize) -> u64
-    ensures { result ≡ option_form tag count }
+// Whether a record's option has a form that a job's bytes give; the job is refused for another tag or number of dates.
+pub(crate) fn option_form(tag: u64, count: usize) -> Result<(), Refusal>
+    ensures { cause_of result ≡ option_form tag count }
 {
     if job_record::MOST_DATES < count {
-        return 1;
+        return Err(Refusal::Job);
     }
     if tag == 0 {
-        return 0;
+        return Ok(());
     }
     if tag == 8 {
-        return 0;
+        return Ok(());
     }
     if tag == 10 {
-        return 0;
+        return Ok(());
     }
-    1
+    Err(Refusal::Job)
 }
 
 // The bond and the option on it, by the option's tag.

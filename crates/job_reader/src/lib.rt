@@ -29,7 +29,8 @@ ghost use Rattle.job_record.specs.Form.{
   body_formed,
   well_formed,
 };
-ghost use Rattle.job_record.specs.Reader.{tag_of, data_of, date_of, no_option, kind_option_at, list_option_at, option_at, version_of, job_of, no_job, reading_of};
+ghost use Rattle.job_record.specs.Reader.{tag_of, data_of, date_of, no_option, kind_option_at, list_option_at, option_at};
+ghost use Rattle.job_record.specs.Reader.{version_of, job_of, no_job, reading_of};
 ghost use Rattle.job_record.specs.Grammar.{ReadsAs};
 
 use job_record::{Job, OptionRecord, Reading, Tags};
@@ -60,22 +61,14 @@ pub const OPTION_WIDTH: usize = 1 + 1 + 4;
 // Side and strike, before the dates.
 pub const LIST_HEAD: usize = 1 + 4;
 
-fn wide(x: u8) -> u64
-    ensures { result ≡ x }
-{
-    x as u64
-}
-
 // The number in `width` bytes from a place on, high byte first.
 fn number(bytes: &[u8], at: usize, width: usize) -> u64
     requires { (width ≤ most_width) × (at + width ≤ length bytes.now) }
     ensures { (result ≡ number_at bytes.now at width) × (result < 256 ^ width) }
 {
     let mut value: u64 = 0;
-    let mut i: usize = 0;
-    while i < width {
-        value = value * 256 + wide(bytes[at + i]);
-        i += 1;
+    for byte in &bytes[at..at + width] {
+        value = value * 256 + u64::from(*byte);
     }
     value
 }
@@ -130,14 +123,7 @@ fn fields_from(bytes: &[u8], from: usize, tags: Tags, width: usize, count: usize
     requires { (from ≤ most_bytes) × (width ≤ most_width) × (count ≤ most_job_steps) }
     ensures { result ≡ fields_from bytes.now from tags width count }
 {
-    let mut i: usize = 0;
-    while i < count {
-        if !field_at(bytes, after_fields(from, width, i), tags, width) {
-            return false;
-        }
-        i += 1;
-    }
-    true
+    (0..count).all(|i| field_at(bytes, after_fields(from, width, i), tags, width))
 }
 
 fn head_formed(bytes: &[u8]) -> bool
@@ -246,10 +232,8 @@ fn tags_from(bytes: &[u8], from: usize, width: usize, count: usize) -> [u8; job_
     ensures { result ≡ padded most_job_steps count (tag_of bytes.now from width) }
 {
     let mut tags = [0u8; job_record::MOST_STEPS];
-    let mut i: usize = 0;
-    while i < count {
+    for i in 0..count {
         tags[i] = bytes[after_fields(from, width, i)];
-        i += 1;
     }
     tags
 }
@@ -260,10 +244,8 @@ fn data_from(bytes: &[u8], from: usize, width: usize, count: usize) -> [u64; job
     ensures { result ≡ padded most_job_steps count (data_of bytes.now from width) }
 {
     let mut numbers = [0u64; job_record::MOST_STEPS];
-    let mut i: usize = 0;
-    while i < count {
+    for i in 0..count {
         numbers[i] = number(bytes, after_fields(from, width, i) + FIELD_HEAD, width);
-        i += 1;
     }
     numbers
 }
@@ -313,11 +295,7 @@ fn dates_from(bytes: &[u8], from: usize, count: usize) -> [u8; job_record::MOST_
     ensures { result ≡ padded most_dates count (date_of bytes.now from) }
 {
     let mut dates = no_dates();
-    let mut i: usize = 0;
-    while i < count {
-        dates[i] = bytes[from + i];
-        i += 1;
-    }
+    dates[..count].copy_from_slice(&bytes[from..from + count]);
     dates
 }
 

@@ -141,24 +141,29 @@ second-version-written = refl
 
 -- no other version, none of another length, and no second one
 pub version-zero-refused : reading_of (version_with (field_of 0)) ≡ malformed
-unfolding number_at is_kind is_version field_at fields_from head_formed has_version quotes_at kind_formed list_formed rest_formed body_formed well_formed reading_of each
+unfolding number_at is_kind is_version field_at fields_from head_formed has_version quotes_at kind_formed list_formed rest_formed body_formed
+    well_formed reading_of each
 version-zero-refused = refl
 
 pub version-three-refused : reading_of (version_with (field_of 3)) ≡ malformed
-unfolding number_at is_kind is_version field_at fields_from head_formed has_version quotes_at kind_formed list_formed rest_formed body_formed well_formed reading_of each
+unfolding number_at is_kind is_version field_at fields_from head_formed has_version quotes_at kind_formed list_formed rest_formed body_formed
+    well_formed reading_of each
 version-three-refused = refl
 
 pub empty-version-refused : reading_of (version_with (11 ∷ 0 ∷ 0 ∷ [])) ≡ malformed
-unfolding number_at is_kind is_version field_at fields_from head_formed has_version quotes_at kind_formed list_formed rest_formed body_formed well_formed reading_of each
+unfolding number_at is_kind is_version field_at fields_from head_formed has_version quotes_at kind_formed list_formed rest_formed body_formed
+    well_formed reading_of each
 empty-version-refused = refl
 
 pub two-versions-refused : reading_of (version_with (field_of 2 ++ field_of 2)) ≡ malformed
-unfolding number_at is_kind is_version field_at fields_from head_formed has_version quotes_at kind_formed list_formed rest_formed body_formed well_formed reading_of each
+unfolding number_at is_kind is_version field_at fields_from head_formed has_version quotes_at kind_formed list_formed rest_formed body_formed
+    well_formed reading_of each
 two-versions-refused = refl
 
 -- nor one in another place
 pub late-version-refused : reading_of (example_head ++ (example_quote ++ (field_of 2 ++ (example_flow ++ example_option)))) ≡ malformed
-unfolding number_at is_kind is_version field_at fields_from head_formed has_version quotes_at kind_formed list_formed rest_formed body_formed well_formed reading_of each
+unfolding number_at is_kind is_version field_at fields_from head_formed has_version quotes_at kind_formed list_formed rest_formed body_formed
+    well_formed reading_of each
 late-version-refused = refl
 
 -- over 4,700 bytes

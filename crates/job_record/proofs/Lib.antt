@@ -8,4 +8,5 @@ pub mod Written
 pub mod Places
 pub mod Reread
 pub mod ReadLaws
+pub mod Tests
 pub mod Examples

@@ -183,7 +183,8 @@ module _ (s : List ℕ) (b : Bytes s) where
   -- the quotes, the flows and the option, from any place on
   module _ (quotes n : ℕ) (few : n ≤ most_job_steps) (listed : dates_left s (rest_at quotes n) ≤ most_dates) (h : body_formed s quotes n ≡ true) where
     quotes-piece :
-        joined n (λ i. field (values (padded most_job_steps n (tag_of s quotes 8)) i) (number_bytes 8 (values (padded most_job_steps n (data_of s quotes 8)) i)))
+        joined n (λ i. field (values (padded most_job_steps n (tag_of s quotes 8)) i)
+        (number_bytes 8 (values (padded most_job_steps n (data_of s quotes 8)) i)))
         ≡ take ((8 + 3) * n) (drop quotes s)
     quotes-piece =
         fields-piece s b quotes AnyKind 8 n (body-quotes s quotes n h) _
@@ -201,7 +202,8 @@ module _ (s : List ℕ) (b : Bytes s) where
         (λ i below. rw (padded-at most_job_steps n (data_of s (flows_at quotes n) 4) i few below, flow-tag i below))
 
     body-piece :
-        joined n (λ i. field (values (padded most_job_steps n (tag_of s quotes 8)) i) (number_bytes 8 (values (padded most_job_steps n (data_of s quotes 8)) i)))
+        joined n (λ i. field (values (padded most_job_steps n (tag_of s quotes 8)) i)
+        (number_bytes 8 (values (padded most_job_steps n (data_of s quotes 8)) i)))
         ++ (joined n (λ i. field 7 (number_bytes 4 (values (padded most_job_steps n (data_of s (flows_at quotes n) 4)) i)))
         ++ option_field (option_at s (rest_at quotes n)))
         ≡ drop quotes s

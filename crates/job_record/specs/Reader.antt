@@ -4,7 +4,8 @@ use Rattle.std.specs.Prelude.{ℕ, ◌+◌, List, cond, length, get_or, replicat
 use Rattle.arithmetic.specs.Row.{padded}
 use Rattle.job_record.specs.Bytes.{number_at}
 use Rattle.job_record.specs.Form.{most_job_steps, most_dates, data_at, after_fields, frequency_at, reversion_at, volatility_at, version_at, quotes_at}
-use Rattle.job_record.specs.Form.{flows_at, rest_at, kind_at, expiry_at, strike_at, side_at, list_strike_at, dates_at, dates_left, steps_of, has_version, well_formed}
+use Rattle.job_record.specs.Form.{flows_at, rest_at, kind_at, expiry_at, strike_at, side_at, list_strike_at, dates_at, dates_left, steps_of}
+use Rattle.job_record.specs.Form.{has_version, well_formed}
 use Rattle.job_record.specs.declared.OptionRecord.{OptionRecord}
 use Rattle.job_record.specs.declared.Job.{Job}
 use Rattle.job_record.specs.declared.Reading.{Reading}

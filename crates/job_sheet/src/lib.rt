@@ -9,10 +9,11 @@ ghost use Rattle.sheet_laws.specs.WholeJob.{
   printed_answer,
   printed_memory,
 };
+ghost use Rattle.text_laws.specs.Put.{placed_of};
 ghost use Rattle.record_sheet.specs.Answers.{answer_of};
 
+use arithmetic::Refusal;
 pub use record_sheet::Written;
-pub use text::Placed;
 
 // The sheet of a job, at the end of the lent room: 468,736 bytes are enough for every job, and fewer are refused with 6. 1 a job that is
 // malformed; then the lowest of the causes of its fit, its bond and its option, but 13 before 12. A refusal leaves the room as it was.
@@ -32,9 +33,9 @@ pub fn sheet(job: &[u8], out: &mut [u8]) -> Written
 
 // What the sheet program prints of a job, at the end of the lent room, and where it starts: the sheet, or `refused` and the number. 6 where not
 // even that line has room.
-pub fn printed(job: &[u8], out: &mut [u8]) -> Placed
-    ensures answer { result ≡ printed_answer job.now out.old }
-    ensures within { result.start ≤ length out.old }
+pub fn printed(job: &[u8], out: &mut [u8]) -> Result<usize, Refusal>
+    ensures answer { placed_of result ≡ printed_answer job.now out.old }
+    ensures within { (placed_of result).start ≤ length out.old }
     ensures memory { out.new ≡ printed_memory job.now out.old }
 {
     let written = sheet(job, out);
@@ -42,6 +43,5 @@ pub fn printed(job: &[u8], out: &mut [u8]) -> Placed
     if written.number != 0 {
         return text::refused_line(out, room, written.number);
     }
-    let start = room - written.size;
-    Placed { number: 0, start }
+    Ok(room - written.size)
 }

@@ -2,7 +2,7 @@
 // the form says nothing.
 #![tactic(auto)]
 
-ghost use Rattle.std.specs.Prelude.{◌≡◌, ◌≤◌, max, length};
+ghost use Rattle.std.specs.Prelude.{◌≡◌, ◌≤◌, length};
 ghost use Rattle.job_record.specs.Form.{most_job_steps};
 ghost use Rattle.writer_laws.specs.Sound.{most_in, all_at_most, is_column, are_kinds, are_columns, head_fits, option_fits, is_absent, option_belongs};
 ghost use Rattle.writer_laws.specs.Sound.{version_fits, is_sound_option, is_sound};
@@ -18,21 +18,13 @@ const MOST_IN_FOUR: u64 = 4_294_967_295;
 
 const MOST_IN_EIGHT: u64 = 18_446_744_073_709_551_615;
 
-fn larger_byte(a: u8, b: u8) -> u8
-    ensures { result ≡ max a b }
-{
-    if a < b { b } else { a }
-}
-
 // Whether each byte of a slice is 0. There is no test on the way, so that many are looked at together.
 fn all_zero(bytes: &[u8]) -> bool
     ensures { result ≡ all_at_most 0 bytes.now }
 {
     let mut top: u8 = 0;
-    let mut k: usize = 0;
-    while k < bytes.len() {
-        top = larger_byte(top, bytes[k]);
-        k += 1;
+    for byte in bytes {
+        top = top.max(*byte);
     }
     top == 0
 }
@@ -61,14 +53,7 @@ fn are_kinds(kinds: &[u8], count: usize) -> bool
     requires { count ≤ length kinds.now }
     ensures { result ≡ are_kinds kinds.now count }
 {
-    let mut k: usize = 0;
-    while k < count {
-        if !job_reader::is_kind(kinds[k]) {
-            return false;
-        }
-        k += 1;
-    }
-    true
+    kinds[..count].iter().all(|tag| job_reader::is_kind(*tag))
 }
 
 // Whether the columns are those of so many quotes and flows.

@@ -20,11 +20,9 @@ fn put_number(out: &mut [u8], at: usize, width: usize, value: u64)
     ensures { out.new ≡ place out.old at (number_bytes width value) }
 {
     let mut rest = value;
-    let mut left = width;
-    while 0 < left {
-        left -= 1;
-        out[at + left] = (rest % 256) as u8;
-        rest = rest / 256;
+    for place in (at..at + width).rev() {
+        out[place] = (rest % 256) as u8;
+        rest /= 256;
     }
 }
 
@@ -82,8 +80,7 @@ fn put_quotes(out: &mut [u8], from: usize, kinds: &[u8], figures: &[u64], count:
     requires { (after_fields from 8 count ≤ length out.old) × (count ≤ length kinds.now) × (count ≤ length figures.now) }
     ensures { out.new ≡ place out.old from (joined count (quote_of kinds.now figures.now)) }
 {
-    let mut i: usize = 0;
-    while i < count {
+    for i in 0..count {
         put_field(
             out,
             from + (8 + job_reader::FIELD_HEAD) * i,
@@ -91,7 +88,6 @@ fn put_quotes(out: &mut [u8], from: usize, kinds: &[u8], figures: &[u64], count:
             8,
             figures[i],
         );
-        i += 1;
     }
 }
 
@@ -100,10 +96,8 @@ fn put_flows(out: &mut [u8], from: usize, flows: &[u64], count: usize)
     requires { (after_fields from 4 count ≤ length out.old) × (count ≤ length flows.now) }
     ensures { out.new ≡ place out.old from (joined count (flow_of flows.now)) }
 {
-    let mut i: usize = 0;
-    while i < count {
-        put_field(out, from + (4 + job_reader::FIELD_HEAD) * i, 7, 4, flows[i]);
-        i += 1;
+    for (i, flow) in flows[..count].iter().enumerate() {
+        put_field(out, from + (4 + job_reader::FIELD_HEAD) * i, 7, 4, *flow);
     }
 }
 
@@ -112,11 +106,7 @@ fn put_dates(out: &mut [u8], from: usize, dates: &[u8])
     requires { from + length dates.now ≤ length out.old }
     ensures { out.new ≡ place out.old from dates.now }
 {
-    let mut i: usize = 0;
-    while i < dates.len() {
-        out[from + i] = dates[i];
-        i += 1;
-    }
+    out[from..from + dates.len()].copy_from_slice(dates);
 }
 
 // Writes an option of a kind.

@@ -6,7 +6,12 @@ use native.Mathlib.Nat.{pos_of_ne-zero}
 use native.Mathlib.Omega.{arith}
 use Rattle.limits.specs.WithinLimits.{WithinLimits}
 use Rattle.arithmetic.specs.Answers.{refused, answered}
+use Rattle.std.proofs.Common.{Result}
+use Rattle.std.specs.Result.{IsOk}
+use Rattle.arithmetic.specs.Refusals.{answer_of}
 use Rattle.arithmetic.specs.declared.Answer.{Answer}
+use Rattle.arithmetic.specs.declared.Refusal.{Refusal}
+use Rattle.arithmetic.proofs.RefusalLaws.{answer-ok}
 use Rattle.arithmetic.proofs.Numbers.{by_order, by_equal}
 use Rattle.lattice.specs.Entries.{about_row, about_tree}
 use Rattle.lattice.proofs.EntryLaws.{row-found, tree-empty, tree-long, tree-steep, tree-found}
@@ -14,6 +19,10 @@ use Rattle.lattice.proofs.EntryLaws.{row-found, tree-empty, tree-long, tree-stee
 -- the value that an entry gives for a row of a tree
 pub row-value : (b i x : ℕ) (a : Answer) → a ≡ about_row b i x → b ≤ 6000 → i ≤ 60 → a.value ≡ x
 row-value b i x a e hb hi = ap (λ (r : Answer). r.value) (e ∙ row-found b i x hb hi)
+
+-- and there is such a value
+pub row-ok : (b i x : ℕ) (r : Result ℕ Refusal) → answer_of r ≡ about_row b i x → b ≤ 6000 → i ≤ 60 → IsOk r
+row-ok b i x r e hb hi = answer-ok r (ap (λ (a : Answer). a.number) (e ∙ row-found b i x hb hi))
 
 module _ (n b x : ℕ) where
   -- a property of an answer about a tree, from what each of its cases says
@@ -51,3 +60,10 @@ module _ (n b x : ℕ) where
       where
         none : n ≡ 0 → ⊥
         none z = omega (arith, l.steps-positive)
+
+-- and there is such a value
+pub tree-ok : (n b x : ℕ) (r : Result ℕ Refusal) → answer_of r ≡ about_tree n b x → WithinLimits n b → IsOk r
+tree-ok n b x r e l = answer-ok r (ap (λ (a : Answer). a.number) (e ∙ tree-found n b x none l.steps-within-limit l.reversion-within-limit))
+  where
+    none : n ≡ 0 → ⊥
+    none z = omega (arith, l.steps-positive)

@@ -1,13 +1,16 @@
 -- The answers of the lattice's entries: 4 for a reversion above 6,000, 3 for steps outside 1 to 60, 6 for a row or node that is not in the tree.
 -- Assumes nothing.
-use Rattle.std.specs.Prelude.{ℕ, suc, ◌+◌, ◌-◌, ◌*◌, Bool, cond, ◌||◌, ◌&&◌, List, [], ◌∷◌, eqb, leb, ltb, ℤ, pos, nat_abs, length}
+use Rattle.std.specs.Prelude.{ℕ, suc, ◌+◌, ◌-◌, ◌*◌, Bool, cond, ◌||◌, ◌&&◌, List, [], ◌∷◌, eqb, leb, ltb, ℤ, pos, nat_abs, length, Result, Ok, Err}
 use Rattle.arithmetic.specs.Answers.{unless_refused, refused, answered}
 use Rattle.arithmetic.specs.Row.{row}
+use Rattle.arithmetic.specs.Refusals.{number_of}
 use Rattle.arithmetic.specs.declared.Answer.{Answer}
+use Rattle.arithmetic.specs.declared.Refusal.{Refusal}
 use Rattle.limits.specs.Limits.{most_steps, most_reversion, shape_cause}
 use Rattle.lattice.specs.Shape.{half_width, node_count, row_start, discounts_needed, state_prices_needed}
 use Rattle.lattice.specs.Branching.{branching, lowest_of, probabilities, down_probability}
 use Rattle.lattice.specs.RateTree.{node_of_index}
+use Rattle.lattice.specs.declared.Branch.{Branch}
 use Rattle.lattice.specs.declared.Branches.{Branches}
 use Rattle.lattice.specs.declared.RowShape.{RowShape}
 
@@ -58,6 +61,11 @@ row_shape_answer b w i =
 
 abbrev pub refused_branch : ℕ → Branches
 refused_branch cause = record { number = cause; lowest = pos 0; probabilities = 0 ∷ 0 ∷ 0 ∷ [] }
+
+-- a branch that may be refused, as C sees it
+abbrev pub branches_of : Result Branch Refusal → Branches
+branches_of (Ok branch) = record { number = 0; lowest = branch.lowest; probabilities = branch.probabilities }
+branches_of (Err refusal) = refused_branch (number_of refusal)
 
 abbrev pub branch_of : ℕ → ℤ → Branches
 branch_of b j = record { number = 0; lowest = lowest_of (branching b j) j; probabilities = probabilities b j }

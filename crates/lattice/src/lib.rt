@@ -4,6 +4,7 @@
 ghost use Rattle.std.specs.Prelude.{◌≡◌, ◌+◌, ◌≤◌, ◌<◌, min};
 ghost use Rattle.limits.specs.Limits.{most_steps};
 ghost use Rattle.lattice.specs.Shape.{highest_node, half_width, row_start};
+ghost use Rattle.arithmetic.specs.Refusals.{cause_of, answer_of};
 ghost use Rattle.lattice.specs.Entries.{
   about_row,
   about_tree,
@@ -16,17 +17,47 @@ ghost use Rattle.lattice.specs.Entries.{
   refused_shape,
   shape_of,
   row_shape_answer,
+  branches_of,
 };
 
-use arithmetic::Answer;
+use arithmetic::Refusal;
 
 // Where a node leads: to `lowest` and the two nodes above it, with probabilities up, middle, down over 600,000,000.
+#[derive(Clone, Copy, Debug, PartialEq, Eq)]
+pub struct Branch {
+    pub lowest: i64,
+    pub probabilities: [u64; 3],
+}
+
+// A branch as C sees it: number 0, or the refusal's number with zeros.
 #[repr(C)]
 #[derive(Drop)]
 pub struct Branches {
     pub number: u64,
     pub lowest: i64,
     pub probabilities: [u64; 3],
+}
+
+impl From<Result<Branch, Refusal>> for Branches {
+    ghost from_gives = { λ outcome branches. branches ≡ branches_of outcome };
+
+    fn from(outcome: Result<Branch, Refusal>) -> Branches {
+        match outcome {
+            Ok(branch) => {
+                let probabilities = branch.probabilities;
+                Branches {
+                    number: 0,
+                    lowest: branch.lowest,
+                    probabilities,
+                }
+            }
+            Err(refusal) => Branches {
+                number: refusal.number(),
+                lowest: 0,
+                probabilities: [0, 0, 0],
+            },
+        }
+    }
 }
 
 // Where a row stands: in a memory that stores row after row, its node count and the next row's, and in a table of a row as wide.
@@ -82,57 +113,38 @@ fn row_start_of(reversion: u64, row: usize) -> usize
 fn clipped(row: usize) -> usize
     ensures { result ≡ min row most_steps }
 {
-    if row < limits::MOST_STEPS {
-        row
-    } else {
-        limits::MOST_STEPS
-    }
+    row.min(limits::MOST_STEPS)
 }
 
-fn about_row(reversion: u64, row: usize, res: usize) -> Answer
-    ensures { result ≡ about_row reversion row res }
+fn about_row(reversion: u64, row: usize, res: usize) -> Result<u64, Refusal>
+    ensures { answer_of result ≡ about_row reversion row res }
 {
     if limits::MOST_REVERSION < reversion {
-        return Answer {
-            number: 4,
-            value: 0,
-        };
+        return Err(Refusal::Reversion);
     }
     if limits::MOST_STEPS < row {
-        return Answer {
-            number: 6,
-            value: 0,
-        };
+        return Err(Refusal::LengthOrRow);
     }
-    Answer {
-        number: 0,
-        value: res as u64,
-    }
+    Ok(res as u64)
 }
 
-fn about_tree(steps: usize, reversion: u64, res: usize) -> Answer
-    ensures { result ≡ about_tree steps reversion res }
+fn about_tree(steps: usize, reversion: u64, res: usize) -> Result<u64, Refusal>
+    ensures { answer_of result ≡ about_tree steps reversion res }
 {
-    let number = limits::shape_cause(steps, reversion);
-    if number != 0 {
-        return Answer { number, value: 0 };
-    }
-    Answer {
-        number: 0,
-        value: res as u64,
-    }
+    limits::shape_cause(steps, reversion)?;
+    Ok(res as u64)
 }
 
 // w, the half width of a row.
-pub fn half_width(reversion: u64, row: usize) -> Answer
-    ensures { result ≡ half_width_answer reversion row }
+pub fn half_width(reversion: u64, row: usize) -> Result<u64, Refusal>
+    ensures { answer_of result ≡ half_width_answer reversion row }
 {
     about_row(reversion, row, half_width_of(reversion, clipped(row)))
 }
 
 // The number of nodes of a row.
-pub fn node_count(reversion: u64, row: usize) -> Answer
-    ensures { result ≡ node_count_answer reversion row }
+pub fn node_count(reversion: u64, row: usize) -> Result<u64, Refusal>
+    ensures { answer_of result ≡ node_count_answer reversion row }
 {
     about_row(
         reversion,
@@ -142,22 +154,22 @@ pub fn node_count(reversion: u64, row: usize) -> Answer
 }
 
 // Where a row starts in a memory that stores row after row.
-pub fn row_start(reversion: u64, row: usize) -> Answer
-    ensures { result ≡ row_start_answer reversion row }
+pub fn row_start(reversion: u64, row: usize) -> Result<u64, Refusal>
+    ensures { answer_of result ≡ row_start_answer reversion row }
 {
     about_row(reversion, row, row_start_of(reversion, clipped(row)))
 }
 
 // How many discounts a tree has.
-pub fn discounts_needed(steps: usize, reversion: u64) -> Answer
-    ensures { result ≡ discounts_needed_answer steps reversion }
+pub fn discounts_needed(steps: usize, reversion: u64) -> Result<u64, Refusal>
+    ensures { answer_of result ≡ discounts_needed_answer steps reversion }
 {
     about_tree(steps, reversion, row_start_of(reversion, clipped(steps)))
 }
 
 // How many state prices a tree has.
-pub fn state_prices_needed(steps: usize, reversion: u64) -> Answer
-    ensures { result ≡ state_prices_needed_answer steps reversion }
+pub fn state_prices_needed(steps: usize, reversion: u64) -> Result<u64, Refusal>
+    ensures { answer_of result ≡ state_prices_needed_answer steps reversion }
 {
     about_tree(
         steps,
@@ -167,18 +179,23 @@ pub fn state_prices_needed(steps: usize, reversion: u64) -> Answer
 }
 
 // 6 where the memories of so many discounts and state prices are too short for a tree; 0 for a tree that is refused itself.
-pub fn memory_cause(steps: usize, reversion: u64, discounts: usize, state_prices: usize) -> u64
-    ensures { result ≡ memory_cause steps reversion discounts state_prices }
+pub fn memory_cause(
+    steps: usize,
+    reversion: u64,
+    discounts: usize,
+    state_prices: usize,
+) -> Result<(), Refusal>
+    ensures { cause_of result ≡ memory_cause steps reversion discounts state_prices }
 {
-    let needed = discounts_needed(steps, reversion);
-    let all = state_prices_needed(steps, reversion);
-    if (discounts as u64) < needed.value {
-        return 6;
+    let needed = discounts_needed(steps, reversion).unwrap_or(0);
+    let all = state_prices_needed(steps, reversion).unwrap_or(0);
+    if (discounts as u64) < needed {
+        return Err(Refusal::LengthOrRow);
     }
-    if (state_prices as u64) < all.value {
-        return 6;
+    if (state_prices as u64) < all {
+        return Err(Refusal::LengthOrRow);
     }
-    0
+    Ok(())
 }
 
 fn refused_shape(number: u64) -> RowShape

@@ -1,10 +1,12 @@
 -- The lending worth of a bond: its price less the haircut of the band of its last row and price.
 -- Assumes nothing.
-use Rattle.std.specs.Prelude.{ℕ, ◌-◌, ◌*◌, ◌/◌, cond, ◌&&◌, List, leb, eqb}
+use Rattle.std.specs.Prelude.{ℕ, ◌-◌, ◌*◌, ◌/◌, cond, ◌&&◌, List, leb, eqb, Result, Ok, Err}
 use Rattle.arithmetic.specs.Row.{values}
 use Rattle.limits.specs.Limits.{most_steps, value_limit}
 use Rattle.bands.specs.Search.{first}
 use Rattle.bands.specs.Bands.{most_haircut, Bands, bands_of, contains, same_lengths, verdict}
+use Rattle.bands.specs.Faults.{fault_verdict}
+use Rattle.bands.specs.declared.Fault.{Fault}
 use Rattle.lending.specs.declared.Worth.{Worth}
 
 -- the index of the first band that contains the pair (in an accepted table, of the one)
@@ -18,6 +20,11 @@ after_haircut price haircut = price * (most_haircut - haircut) / most_haircut
 -- a refusal: no worth
 abbrev pub refused_worth : ℕ → Worth
 refused_worth number = record { worth = 0; verdict = record { number = number; row = 0; price = 0; place = 0 } }
+
+-- a worth that may be refused, as C sees it
+abbrev pub result_worth : Result ℕ Fault → Worth
+result_worth (Ok worth) = record { worth = worth; verdict = record { number = 0; row = 0; price = 0; place = 0 } }
+result_worth (Err fault) = record { worth = 0; verdict = fault_verdict fault }
 
 -- the answer by an accepted table
 abbrev pub accepted_worth : List ℕ → List ℕ → List ℕ → List ℕ → List ℕ → ℕ → ℕ → ℕ

@@ -5,16 +5,39 @@
 ghost use Rattle.std.specs.Prelude.{◌≡◌};
 ghost use Rattle.bands.specs.Bands.{within, bands_of};
 ghost use Rattle.bands.specs.inside.Lists.{Parallel};
-ghost use Rattle.lending.specs.Lending.{band_index, lending_worth, refused_worth};
+ghost use Rattle.lending.specs.Lending.{band_index, lending_worth, result_worth};
 
-use bands::Verdict;
+use arithmetic::Refusal;
+use bands::{Fault, Verdict};
 
-// The lending worth, 0 where it is refused, and the verdict.
+// The lending worth as C sees it: 0 where it is refused, and the verdict.
 #[repr(C)]
 #[derive(Drop)]
 pub struct Worth {
     pub worth: u64,
     pub verdict: Verdict,
+}
+
+impl From<Result<u64, Fault>> for Worth {
+    ghost from_gives = { λ outcome answer. answer ≡ result_worth outcome };
+
+    fn from(outcome: Result<u64, Fault>) -> Worth {
+        match outcome {
+            Ok(worth) => {
+                let verdict = Verdict {
+                    number: 0,
+                    row: 0,
+                    price: 0,
+                    place: 0,
+                };
+                Worth { worth, verdict }
+            }
+            Err(fault) => {
+                let verdict = Verdict::from(fault);
+                Worth { worth: 0, verdict }
+            }
+        }
+    }
 }
 
 // Whether a row and a price fall in a band.
@@ -48,27 +71,12 @@ fn find_band(
     requires { Parallel firsts.now lasts.now lowests.now highests.now }
     ensures { result ≡ band_index (bands_of firsts.now lasts.now lowests.now highests.now) row price }
 {
-    let mut k = 0usize;
-    while k < firsts.len() {
+    for k in 0..firsts.len() {
         if is_within(firsts[k], lasts[k], lowests[k], highests[k], row, price) {
             return k;
         }
-        k += 1;
     }
-    k
-}
-
-// A refusal that no table decides.
-fn refused(number: u64) -> Worth
-    ensures { result ≡ refused_worth number }
-{
-    let verdict = Verdict {
-        number,
-        row: 0,
-        price: 0,
-        place: 0,
-    };
-    Worth { worth: 0, verdict }
+    firsts.len()
 }
 
 // The price less the haircut of its band. Refusals: 6 a row outside 1 to 60, or lengths that differ; 12 a price above 8 × one; then
@@ -81,31 +89,23 @@ pub fn lending_worth(
     haircuts: &[u64],
     row: u64,
     price: u64,
-) -> Worth
-    ensures { result ≡ lending_worth firsts.now lasts.now lowests.now highests.now haircuts.now row
-        price }
+) -> Result<u64, Fault>
+    ensures { result_worth result ≡ lending_worth firsts.now lasts.now lowests.now highests.now haircuts.now row price }
 {
     if row < 1 {
-        return refused(6);
+        return Err(Fault::Refused(Refusal::LengthOrRow));
     }
     if bands::LAST_ROW < row {
-        return refused(6);
+        return Err(Fault::Refused(Refusal::LengthOrRow));
     }
     if !bands::have_one_length(firsts, lasts, lowests, highests, haircuts) {
-        return refused(6);
+        return Err(Fault::Refused(Refusal::LengthOrRow));
     }
     if limits::VALUE_LIMIT < price {
-        return refused(12);
+        return Err(Fault::Refused(Refusal::Value));
     }
-    let verdict = bands::check_bands(firsts, lasts, lowests, highests, haircuts);
-    let number = verdict.number;
-    if number != 0 {
-        return Worth { worth: 0, verdict };
-    }
+    bands::check_bands(firsts, lasts, lowests, highests, haircuts)?;
     let k = find_band(firsts, lasts, lowests, highests, row, price);
     let haircut = haircuts[k];
-    Worth {
-        worth: price * (bands::MOST_HAIRCUT - haircut) / bands::MOST_HAIRCUT,
-        verdict,
-    }
+    Ok(price * (bands::MOST_HAIRCUT - haircut) / bands::MOST_HAIRCUT)
 }

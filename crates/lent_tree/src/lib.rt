@@ -2,36 +2,33 @@
 #![tactic(auto)]
 
 ghost use Rattle.std.specs.Prelude.{◌≡◌};
+ghost use Rattle.arithmetic.specs.Refusals.{cause_of};
 ghost use Rattle.lent_tree.specs.LentTree.{room_cause, discounts_cause};
 
-// The first cause about a tree's numbers and the room of its lent discounts, which are not looked at; 0 where there is none.
-pub fn room_cause(steps: usize, reversion: u64, discounts: &[u64]) -> u64
-    ensures { result ≡ room_cause steps reversion discounts.now }
+use arithmetic::Refusal;
+
+// The first cause about a tree's numbers and the room of its lent discounts, which are not looked at.
+pub fn room_cause(steps: usize, reversion: u64, discounts: &[u64]) -> Result<(), Refusal>
+    ensures { cause_of result ≡ room_cause steps reversion discounts.now }
 {
-    let needed = lattice::discounts_needed(steps, reversion);
-    if needed.number != 0 {
-        return needed.number;
+    let needed = lattice::discounts_needed(steps, reversion)?;
+    if discounts.len() < needed as usize {
+        return Err(Refusal::LengthOrRow);
     }
-    if discounts.len() < needed.value as usize {
-        return 6;
-    }
-    0
+    Ok(())
 }
 
-// The first cause about a tree's numbers and its lent discounts; 0 where there is none.
-pub fn discounts_cause(steps: usize, reversion: u64, discounts: &[u64]) -> u64
-    ensures { result ≡ discounts_cause steps reversion discounts.now }
+// The first cause about a tree's numbers and its lent discounts.
+pub fn discounts_cause(steps: usize, reversion: u64, discounts: &[u64]) -> Result<(), Refusal>
+    ensures { cause_of result ≡ discounts_cause steps reversion discounts.now }
 {
-    let needed = lattice::discounts_needed(steps, reversion);
-    if needed.number != 0 {
-        return needed.number;
-    }
-    let size = needed.value as usize;
+    let needed = lattice::discounts_needed(steps, reversion)?;
+    let size = needed as usize;
     if discounts.len() < size {
-        return 6;
+        return Err(Refusal::LengthOrRow);
     }
     if !arithmetic::all_between(1, limits::MOST_DISCOUNT, &discounts[..size]) {
-        return 9;
+        return Err(Refusal::Discount);
     }
-    0
+    Ok(())
 }

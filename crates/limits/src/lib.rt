@@ -3,6 +3,9 @@
 
 ghost use Rattle.std.specs.Prelude.{◌≡◌, length};
 ghost use Rattle.limits.specs.Limits.{most_discounts, most_state_prices, is_steps, is_reversion, is_discount, shape_cause, limit_cause};
+ghost use Rattle.arithmetic.specs.Refusals.{cause_of};
+
+use arithmetic::Refusal;
 
 pub const MOST_STEPS: usize = 60;
 
@@ -48,24 +51,28 @@ pub fn is_discount(discount: u64) -> bool
     discount <= MOST_DISCOUNT
 }
 
-// The cause about the numbers of a tree: 3, 4, or 0 where there is none.
-pub fn shape_cause(steps: usize, reversion: u64) -> u64
-    ensures { result ≡ shape_cause steps reversion }
+// Whether steps and reversion are those of a tree.
+pub fn shape_cause(steps: usize, reversion: u64) -> Result<(), Refusal>
+    ensures { cause_of result ≡ shape_cause steps reversion }
 {
     if !is_steps(steps) {
-        return 3;
+        return Err(Refusal::Steps);
     }
     if !is_reversion(reversion) {
-        return 4;
+        return Err(Refusal::Reversion);
     }
-    0
+    Ok(())
 }
 
-// The cause about a value: 12 where it is above 8, or 0.
-pub fn limit_cause(value: u64) -> u64
-    ensures { result ≡ limit_cause value }
+// Whether a value is at most 8.
+pub fn limit_cause(value: u64) -> Result<(), Refusal>
+    ensures { cause_of result ≡ limit_cause value }
 {
-    if VALUE_LIMIT < value { 12 } else { 0 }
+    if VALUE_LIMIT < value {
+        Err(Refusal::Value)
+    } else {
+        Ok(())
+    }
 }
 
 // Room for the discounts of the widest tree.

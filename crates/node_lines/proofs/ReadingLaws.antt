@@ -8,6 +8,12 @@ use native.Mathlib.Omega.{arith}
 use borrow.Author.Tests.{le-leb, lt-leb, leb-true, eq-eqb, ne_eqb}
 use lib.Dec.{leb}
 use lib.ListN.{length, get_or, take, drop}
+use Rattle.std.specs.Prelude.{Result, Ok, Err}
+use Rattle.std.specs.Result.{IsOk}
+use Rattle.arithmetic.specs.Refusals.{cause_of}
+use Rattle.arithmetic.specs.declared.Refusal.{Refusal}
+use Rattle.arithmetic.proofs.RefusalLaws.{cause-ok}
+use Rattle.node_lines.specs.declared.Places.{Places}
 use Rattle.arithmetic.proofs.PartLaws.{part_length, part-value}
 use Rattle.limits.specs.Limits.{most_discount}
 use Rattle.lattice.specs.RateTree.{node_of_index}
@@ -15,9 +21,8 @@ use Rattle.text_laws.specs.Lines.{line_of_node}
 use Rattle.text_laws.specs.Put.{put_before, with_text}
 use Rattle.text_laws.specs.inside.Put.{Put}
 use Rattle.text_laws.proofs.PutLaws.{put_whole}
-use Rattle.node_lines.specs.declared.Drawn.{Drawn}
 use Rattle.node_lines.specs.Rows.{node_text, is_row, has_room_for, accepted_nodes, row_number}
-use Rattle.node_lines.specs.Reading.{stand_before, nodes_before, read_number, drawn_of}
+use Rattle.node_lines.specs.Reading.{Drawn, drawn_by, stand_before, nodes_before, read_number, drawn_of}
 use Rattle.node_lines.specs.inside.Preconditions.{Readable}
 use Rattle.node_lines.proofs.RowLaws.{and_both, row-none, row-short, row-judged, row_room, row-accepted, row_within, row-discount}
 
@@ -117,6 +122,10 @@ read_known size end row discounts next count z =
 
 -- ---- what a call leaves
 
+pub drawn-cause : (answer : Result Places Refusal) → (drawn_by answer).number ≡ cause_of answer
+drawn-cause (Ok places) = refl
+drawn-cause (Err refusal) = refl
+
 module _ (number : ℕ) (out : List ℕ) (end : ℕ) (text : List ℕ) (next : ℕ) where
   -- an answer, and the buffer afterwards
   abbrev pub Drew : Drawn → List ℕ → Type 0
@@ -138,6 +147,11 @@ module _ (number : ℕ) (out : List ℕ) (end : ℕ) (text : List ℕ) (next : �
       Drew answer after
   unfolding with_text
   drawn-answered z a m = (a ∙ ap (λ (n : ℕ). drawn_of n end text next) (sym z), rw (eq-eqb number 0 z) m)
+
+  -- lines that are put are not refused
+  pub drawn-ok : (answer : Result Places Refusal) {after : List ℕ} → Drew (drawn_by answer) after → number ≡ 0 → IsOk answer
+  unfolding drawn_of
+  drawn-ok answer d z = cause-ok answer (sym (drawn-cause answer) ∙ ap (λ (a : Drawn). a.number) d.0 ∙ rw (eq-eqb number 0 z))
 
   -- what a caller has of it
   module _ {answer : Drawn} {after : List ℕ} (d : Drew answer after) (z : number ≡ 0) where

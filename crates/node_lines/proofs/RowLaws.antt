@@ -12,21 +12,23 @@ use lib.ListN.{length, get_or, take, drop, length-append}
 use mir.Syntax.{w64}
 use mir.Val.{SFits, to_z}
 use mir.Facts.{to_z_pos}
+use Rattle.std.specs.Prelude.{Result, Ok, Err}
+use Rattle.std.specs.Result.{IsOk}
 use Rattle.arithmetic.specs.Row.{values, each, between}
 use Rattle.arithmetic.proofs.BetweenLaws.{between-least, between-most}
 use Rattle.arithmetic.proofs.PartLaws.{part_length, part-value}
+use Rattle.arithmetic.proofs.RefusalLaws.{refusal-some}
 use Rattle.arithmetic.proofs.RowLaws.{each_holds}
+use Rattle.arithmetic.specs.declared.Refusal.{Refusal}
 use Rattle.limits.specs.Limits.{most_discount}
 use Rattle.arithmetic.proofs.Signed.{fits-by-size}
 use Rattle.lattice.specs.RateTree.{node_of_index}
 use Rattle.lattice.specs.Shape.{half_width, node_count}
 use Rattle.lattice.proofs.Sizes.{half-within}
 use Rattle.lattice.proofs.Differences.{sub_is, sub-size}
-use Rattle.node_reader.specs.declared.Node.{Node}
-use Rattle.node_reader.specs.Reading.{node_at}
-use Rattle.text_laws.specs.declared.Placed.{Placed}
+use Rattle.node_reader.specs.Reading.{Node, node_at, node_of}
 use Rattle.text_laws.specs.Lines.{line_of_node, node_number, longest_line}
-use Rattle.text_laws.specs.Put.{put_before}
+use Rattle.text_laws.specs.Put.{Placed, put_before}
 use Rattle.text_laws.specs.inside.Put.{Put}
 use Rattle.text_laws.proofs.LineLaws.{node-line-room, node-stands}
 use Rattle.text_laws.proofs.PutLaws.{put-joined, Answered}
@@ -76,6 +78,12 @@ node-is k w h l = machine-sub k w h l ∙ sym (sub_is k w)
 
 pub discount-read : (discounts : List ℕ) (k : ℕ) (node : Node) → node ≡ node_at discounts k → k < length discounts → node.discount ≡ get_or discounts k 0
 discount-read discounts k node e h = ap (λ (n : Node). n.discount) e ∙ rw (lt-ltb k (length discounts) h)
+
+-- it is there
+pub node-there : (discounts : List ℕ) (k : ℕ) (node : Result ℕ Refusal) → node_of node ≡ node_at discounts k → k < length discounts → IsOk node
+node-there discounts k (Ok discount) e h = refl
+node-there discounts k (Err refusal) e h =
+    absurd (refusal-some refusal (ap (λ (n : Node). n.number) e ∙ rw (lt-ltb k (length discounts) h)))
 
 pub row-discount : (discounts : List ℕ) (k : ℕ) → accepted_nodes discounts ≡ true → k < length discounts →
     (1 ≤ get_or discounts k 0) × (get_or discounts k 0 ≤ most_discount)

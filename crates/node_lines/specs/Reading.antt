@@ -1,9 +1,22 @@
 -- The node lines of a row that are drawn through a reader of the lent discounts (document 01): it stands behind the row's nodes and goes down by one
 -- with each.
 -- Assumes nothing.
-use Rattle.std.specs.Prelude.{ℕ, ◌-◌, Bool, cond, ◌&&◌, List, eqb, leb, length, take, drop}
-use Rattle.node_lines.specs.declared.Drawn.{Drawn}
+use Rattle.std.specs.Prelude.{ℕ, ◌-◌, Bool, cond, ◌&&◌, List, eqb, leb, length, take, drop, Result, Ok, Err}
+use Rattle.arithmetic.specs.Refusals.{number_of}
+use Rattle.arithmetic.specs.declared.Refusal.{Refusal}
+use Rattle.node_lines.specs.declared.Places.{Places}
 use Rattle.node_lines.specs.Rows.{row_number}
+
+-- number 0, where the lines start and the reader's next place, or the number of a refusal with zeros
+pub record Drawn : Type 0 where
+  pub number : ℕ
+  pub start : ℕ
+  pub next : ℕ
+
+-- the places of lines that may be refused, as such
+abbrev pub drawn_by : Result Places Refusal → Drawn
+drawn_by (Ok places) = record { number = 0; start = places.start; next = places.next }
+drawn_by (Err refusal) = record { number = number_of refusal; start = 0; next = 0 }
 
 -- so many nodes stand before a place of a memory of a size
 unfoldable pub stand_before : ℕ → ℕ → ℕ → Bool

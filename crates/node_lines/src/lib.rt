@@ -1,25 +1,26 @@
 // The node lines of a row, put into a lent buffer from its end by a reader that goes down from node to node.
 #![tactic(auto)]
 
-ghost use Rattle.std.specs.Prelude.{◌≡◌, ◌-◌, ◌≤◌, ◌<◌, length};
+ghost use Rattle.std.specs.Prelude.{Ok, ◌≡◌, ◌-◌, ◌≤◌, ◌<◌, length};
+ghost use Rattle.arithmetic.specs.Refusals.{cause_of};
 ghost use Rattle.text_laws.specs.Lines.{longest_line, line_of_node};
 ghost use Rattle.limits.specs.Limits.{most_discount};
 ghost use Rattle.lattice.specs.RateTree.{node_of_index};
 ghost use Rattle.text_laws.specs.Put.{put_before, with_text};
 ghost use Rattle.text_laws.specs.inside.Put.{Put};
 ghost use Rattle.node_lines.specs.Rows.{row_text, has_room_for, is_row};
-ghost use Rattle.node_lines.specs.Reading.{stand_before, nodes_before, read_number, drawn_of};
+ghost use Rattle.node_lines.specs.Reading.{stand_before, nodes_before, read_number, drawn_by, drawn_of};
 ghost use Rattle.node_lines.specs.inside.Preconditions.{Readable};
 
+use arithmetic::Refusal;
 use text_laws::LONGEST_LINE;
 
 // Discounts exist for rows 0 to 59.
 const LAST_ROW: u64 = 59;
 
-// Where the lines start, and the reader's next place, behind the row before; a refusal's number with zeros.
+// Where the lines start, and the reader's next place, behind the row before.
 #[derive(Drop)]
-pub struct Drawn {
-    pub number: u64,
+pub struct Places {
     pub start: usize,
     pub next: usize,
 }
@@ -55,30 +56,30 @@ fn stand_before(count: usize, next: usize, size: usize) -> bool
     next <= size
 }
 
-// The cause of a row: 6 for its nodes' place, its numbers or its room, then 9 for a discount; 0 where there is none.
-fn row_number(
+// Refused with 6 for a row's nodes' place, its numbers or its room, then with 9 for a discount.
+fn row_cause(
     size: usize,
     end: usize,
     row: u64,
     discounts: &[u64],
     next: usize,
     count: usize,
-) -> u64
-    ensures { result ≡ read_number size end row discounts.now next count }
+) -> Result<(), Refusal>
+    ensures { cause_of result ≡ read_number size end row discounts.now next count }
 {
     if !stand_before(count, next, discounts.len()) {
-        return 6;
+        return Err(Refusal::LengthOrRow);
     }
     if !is_row(row, count) {
-        return 6;
+        return Err(Refusal::LengthOrRow);
     }
     if !has_room(count, size, end) {
-        return 6;
+        return Err(Refusal::LengthOrRow);
     }
     if !arithmetic::all_between(1, limits::MOST_DISCOUNT, &discounts[next - count..next]) {
-        return 9;
+        return Err(Refusal::Discount);
     }
-    0
+    Ok(())
 }
 
 // The line of the node at an index of its row.
@@ -94,11 +95,10 @@ fn put_node_line(
     ensures { Put out.old end (line_of_node row (node_of_index half_width index) discount) result out.new }
 {
     let node = index as i64 - half_width as i64;
-    let line = text::node_line(out, end, row, node, discount);
-    line.start
+    text::node_line(out, end, row, node, discount).unwrap()
 }
 
-// The last node's line comes first, so that the lines stand in order. The place of the next node goes down with each.
+// The last node's line comes first, so that the lines stand in order.
 fn put_row_nodes(
     out: &mut [u8],
     end: usize,
@@ -106,26 +106,19 @@ fn put_row_nodes(
     discounts: &[u64],
     next: usize,
     count: usize,
-) -> Drawn
+) -> Places
     requires { Readable discounts.now next count end (length out.old) }
-    ensures answer { result ≡ drawn_of 0 end (row_text row (nodes_before discounts.now next count)) (next - count) }
+    ensures answer { drawn_by (Ok result) ≡ drawn_of 0 end (row_text row (nodes_before discounts.now next count)) (next - count) }
     ensures memory { out.new ≡ put_before out.old end (row_text row (nodes_before discounts.now next count)) }
 {
     let half_width = count / 2;
+    let first = next - count;
     let mut start = end;
-    let mut place = next;
-    let mut left = count;
-    while left > 0 {
-        left -= 1;
-        place -= 1;
-        let node = node_reader::node_at(discounts, place);
-        start = put_node_line(out, start, row, half_width, left, node.discount);
+    for index in (0..count).rev() {
+        let discount = node_reader::node_at(discounts, first + index).unwrap();
+        start = put_node_line(out, start, row, half_width, index, discount);
     }
-    Drawn {
-        number: 0,
-        start,
-        next: place,
-    }
+    Places { start, next: first }
 }
 
 // The lines of a row whose nodes are the last `count` before a place of the lent discounts, lowest node first. Refused with 6 for nodes that do not
@@ -137,19 +130,12 @@ pub fn node_lines(
     discounts: &[u64],
     next: usize,
     count: usize,
-) -> Drawn
-    ensures answer { result ≡ drawn_of (read_number (length out.old) end row discounts.now next count) end
+) -> Result<Places, Refusal>
+    ensures answer { drawn_by result ≡ drawn_of (read_number (length out.old) end row discounts.now next count) end
         (row_text row (nodes_before discounts.now next count)) (next - count) }
     ensures memory { out.new ≡ with_text (read_number (length out.old) end row discounts.now next count)
         out.old end (row_text row (nodes_before discounts.now next count)) }
 {
-    let number = row_number(out.len(), end, row, discounts, next, count);
-    if number != 0 {
-        return Drawn {
-            number,
-            start: 0,
-            next: 0,
-        };
-    }
-    put_row_nodes(out, end, row, discounts, next, count)
+    row_cause(out.len(), end, row, discounts, next, count)?;
+    Ok(put_row_nodes(out, end, row, discounts, next, count))
 }

@@ -3,19 +3,14 @@
 #![tactic(auto)]
 
 ghost use Rattle.std.specs.Prelude.{◌≡◌};
-ghost use Rattle.node_reader.specs.Reading.{node_at};
+ghost use Rattle.node_reader.specs.Reading.{node_at, node_of};
+
+use arithmetic::Refusal;
 
 #[derive(Drop)]
 pub struct NodeReader<'a> {
     pub discounts: &'a [u64],
     pub next: usize,
-}
-
-// Number 0 and the node's discount, or 6 with a zero where there is no node.
-#[derive(Drop)]
-pub struct Node {
-    pub number: u64,
-    pub discount: u64,
 }
 
 // A reader of the lent discounts, at a place.
@@ -25,18 +20,12 @@ pub fn reader_at<'a>(discounts: &'a [u64], next: usize) -> NodeReader<'a>
     NodeReader { discounts, next }
 }
 
-// The node at a place of the discounts.
-pub fn node_at(discounts: &[u64], next: usize) -> Node
-    ensures { result ≡ node_at discounts.now next }
+// The discount of the node at a place, refused with 6 where there is none.
+pub fn node_at(discounts: &[u64], next: usize) -> Result<u64, Refusal>
+    ensures { node_of result ≡ node_at discounts.now next }
 {
     if discounts.len() <= next {
-        return Node {
-            number: 6,
-            discount: 0,
-        };
+        return Err(Refusal::LengthOrRow);
     }
-    Node {
-        number: 0,
-        discount: discounts[next],
-    }
+    Ok(discounts[next])
 }

@@ -9,22 +9,15 @@ use price_laws::Price;
 fn fill(numbers: &mut [u64], base: u64, factor: u64, range: u64)
     requires { (base ≤ 1000000000) × (factor ≤ 1000000000) × (range ≤ 1000000000) × (0 < range) }
 {
-    let mut place: usize = 0;
-    while place < numbers.len() {
+    for (place, number) in numbers.iter_mut().enumerate() {
         let k = (place % 3600) as u64;
-        numbers[place] = base + k * factor % range;
-        place += 1;
+        *number = base + k * factor % range;
     }
 }
 
 // The first numbers of a list, or all where it has fewer.
 fn first(numbers: &[u64], count: usize) -> &[u64] {
-    let start = 0;
-    if count <= numbers.len() {
-        &numbers[start..count]
-    } else {
-        numbers
-    }
+    &numbers[..count.min(numbers.len())]
 }
 
 fn number(n: u64) {

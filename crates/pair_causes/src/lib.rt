@@ -2,30 +2,33 @@
 #![tactic(auto)]
 
 ghost use Rattle.std.specs.Prelude.{◌≡◌, ◌<◌, length};
+ghost use Rattle.arithmetic.specs.Refusals.{cause_of};
 ghost use Rattle.arithmetic.specs.Row.{values};
 ghost use Rattle.lattice.specs.Shape.{node_count};
 ghost use Rattle.lent_tree.specs.LentTree.{stored, Accepted};
 ghost use Rattle.pair_laws.specs.PairCauses.{pair_steps_cause, discounted, combined_cause, pair_cause, least, AcceptedTrees};
 
+use arithmetic::Refusal;
+
 const MOST_PAIR_STEPS: usize = 20;
 
-// The cause about both numbers of steps: 3 outside 1 to 60, then 19 where they are above 20 or differ; 0 where there is none.
-fn pair_steps_cause(rate_steps: usize, spread_steps: usize) -> u64
-    ensures { result ≡ pair_steps_cause rate_steps spread_steps }
+// The cause about both numbers of steps: outside 1 to 60, then above 20 or different.
+fn pair_steps_cause(rate_steps: usize, spread_steps: usize) -> Result<(), Refusal>
+    ensures { cause_of result ≡ pair_steps_cause rate_steps spread_steps }
 {
     if !limits::is_steps(rate_steps) {
-        return 3;
+        return Err(Refusal::Steps);
     }
     if !limits::is_steps(spread_steps) {
-        return 3;
+        return Err(Refusal::Steps);
     }
     if MOST_PAIR_STEPS < rate_steps {
-        return 19;
+        return Err(Refusal::PairSteps);
     }
     if rate_steps != spread_steps {
-        return 19;
+        return Err(Refusal::PairSteps);
     }
-    0
+    Ok(())
 }
 
 // The least of a row, at most 1,100,000,000.
@@ -33,13 +36,10 @@ fn least_of(xs: &[u64]) -> u64
     ensures { result ≡ least (length xs.now) (values xs.now) }
 {
     let mut best: u64 = limits::MOST_DISCOUNT;
-    let mut k: usize = 0;
-    while k < xs.len() {
-        let x = xs[k];
-        if x < best {
-            best = x;
+    for x in xs {
+        if *x < best {
+            best = *x;
         }
-        k += 1;
     }
     best
 }
@@ -72,28 +72,26 @@ fn is_discounted(
     0 < rate * spread / arithmetic::ONE
 }
 
-// 9 where a pair of some row has discount 0; 0 where there is none.
+// Refused where a pair of some row has discount 0.
 fn combined_cause(
     steps: usize,
     rate_reversion: u64,
     spread_reversion: u64,
     rates: &[u64],
     spreads: &[u64],
-) -> u64
+) -> Result<(), Refusal>
     requires { AcceptedTrees steps rate_reversion spread_reversion rates.now spreads.now }
-    ensures { result ≡ combined_cause steps rate_reversion spread_reversion rates.now spreads.now }
+    ensures { cause_of result ≡ combined_cause steps rate_reversion spread_reversion rates.now spreads.now }
 {
-    let mut row: usize = 0;
-    while row < steps {
+    for row in 0..steps {
         if !is_discounted(steps, rate_reversion, spread_reversion, row, rates, spreads) {
-            return 9;
+            return Err(Refusal::Discount);
         }
-        row += 1;
     }
-    0
+    Ok(())
 }
 
-// The first cause about two trees, their lent discounts and their flows: 3, 19, 4, 6, 9, 10; 0 where there is none.
+// The first cause about two trees, their lent discounts and their flows: 3, 19, 4, 6, 9, 10.
 pub fn pair_cause(
     rate_steps: usize,
     rate_reversion: u64,
@@ -102,20 +100,18 @@ pub fn pair_cause(
     spread_reversion: u64,
     spread_discounts: &[u64],
     flows: &[u64],
-) -> u64
-    ensures { result ≡ pair_cause rate_steps rate_reversion rate_discounts.now spread_steps spread_reversion
+) -> Result<(), Refusal>
+    ensures { cause_of result ≡ pair_cause rate_steps rate_reversion rate_discounts.now spread_steps spread_reversion
         spread_discounts.now flows.now }
 {
-    let about_steps = pair_steps_cause(rate_steps, spread_steps);
-    if about_steps != 0 {
-        return about_steps;
-    }
-    let rate = lent_tree::discounts_cause(rate_steps, rate_reversion, rate_discounts);
-    let spread = lent_tree::discounts_cause(spread_steps, spread_reversion, spread_discounts);
-    let trees = arithmetic::lowest_cause(rate, spread);
+    pair_steps_cause(rate_steps, spread_steps)?;
+    let trees = arithmetic::lowest_refusal(
+        lent_tree::discounts_cause(rate_steps, rate_reversion, rate_discounts),
+        lent_tree::discounts_cause(spread_steps, spread_reversion, spread_discounts),
+    );
     let about_flows = price_causes::flows_cause(rate_steps, flows);
-    if trees != 0 {
-        return arithmetic::lowest_cause(trees, about_flows);
+    if trees.is_err() {
+        return arithmetic::lowest_refusal(trees, about_flows);
     }
     let combined = combined_cause(
         rate_steps,
@@ -124,5 +120,5 @@ pub fn pair_cause(
         rate_discounts,
         spread_discounts,
     );
-    arithmetic::lowest_cause(combined, about_flows)
+    arithmetic::lowest_refusal(combined, about_flows)
 }

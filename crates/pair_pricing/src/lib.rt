@@ -41,10 +41,10 @@ fn table_of(steps: usize, reversion: u64) -> [u64; limits::MOST_NODES]
     requires { (steps ≤ most_steps) × (reversion ≤ most_reversion) }
     ensures { take (node_count reversion steps) result ≡ down_table steps reversion }
 {
-    let widest = lattice::half_width(reversion, steps).value as usize;
+    let widest = lattice::half_width(reversion, steps).unwrap() as usize;
     let nodes = 2 * widest + 1;
     let mut table = empty_table();
-    branches::down_probabilities(reversion, widest, &mut table[..nodes]);
+    branches::down_probabilities(reversion, widest, &mut table[..nodes]).unwrap();
     table
 }
 
@@ -53,9 +53,9 @@ fn accepted_bond(trees: Trees, rates: &[u64], spreads: &[u64], flows: &[u64]) ->
     requires { AcceptedPair trees.steps trees.rate trees.spread rates.now spreads.now flows.now }
     ensures { result ≡ accepted_pair_bond trees.steps trees.rate trees.spread rates.now spreads.now flows.now }
 {
-    let rate_nodes = lattice::node_count(trees.rate, trees.steps).value as usize;
+    let rate_nodes = lattice::node_count(trees.rate, trees.steps).unwrap() as usize;
     let rate_table = table_of(trees.steps, trees.rate);
-    let spread_nodes = lattice::node_count(trees.spread, trees.steps).value as usize;
+    let spread_nodes = lattice::node_count(trees.spread, trees.steps).unwrap() as usize;
     let spread_table = table_of(trees.steps, trees.spread);
     let mut bond = squares::empty_square();
     let mut middle = squares::empty_square();
@@ -94,9 +94,9 @@ fn accepted_option(
     ensures { result ≡ accepted_pair_option trees.steps trees.rate trees.spread rates.now spreads.now flows.now
         (side terms.call) terms.strike (marked terms.last marks.now) }
 {
-    let rate_nodes = lattice::node_count(trees.rate, trees.steps).value as usize;
+    let rate_nodes = lattice::node_count(trees.rate, trees.steps).unwrap() as usize;
     let rate_table = table_of(trees.steps, trees.rate);
-    let spread_nodes = lattice::node_count(trees.spread, trees.steps).value as usize;
+    let spread_nodes = lattice::node_count(trees.spread, trees.steps).unwrap() as usize;
     let spread_table = table_of(trees.steps, trees.spread);
     let mut bond = squares::empty_square();
     let mut option = squares::empty_square();
@@ -137,7 +137,7 @@ pub fn pair_bond_price(
     ensures { result ≡ pair_bond_price rate_steps rate_reversion rate_discounts.now spread_steps spread_reversion
         spread_discounts.now flows.now }
 {
-    let cause = pair_causes::pair_cause(
+    let cause = arithmetic::cause(pair_causes::pair_cause(
         rate_steps,
         rate_reversion,
         rate_discounts,
@@ -145,7 +145,7 @@ pub fn pair_bond_price(
         spread_reversion,
         spread_discounts,
         flows,
-    );
+    ));
     if cause != 0 {
         return refused(cause);
     }
@@ -173,7 +173,7 @@ pub fn pair_dated_option_price(
     ensures { result ≡ pair_dated_price rate_steps rate_reversion rate_discounts.now spread_steps spread_reversion
         spread_discounts.now flows.now side dates.now strike }
 {
-    let cause = pair_causes::pair_cause(
+    let cause = arithmetic::cause(pair_causes::pair_cause(
         rate_steps,
         rate_reversion,
         rate_discounts,
@@ -181,11 +181,11 @@ pub fn pair_dated_option_price(
         spread_reversion,
         spread_discounts,
         flows,
-    );
+    ));
     if cause != 0 {
         return refused(cause);
     }
-    let about_terms = price_causes::terms_cause(side, strike);
+    let about_terms = arithmetic::cause(price_causes::terms_cause(side, strike));
     let other = arithmetic::lowest_cause(
         about_terms,
         exercise_dates::dates_cause(rate_steps, dates),

@@ -84,10 +84,8 @@ fn rate_line(branch: RowBranch, line: usize, width: usize, later: &[u64], middle
         middle.old middle.new width }
 {
     let from = LINE * branch.low;
-    let mut l: usize = 0;
-    while l < width {
+    for l in 0..width {
         middle[LINE * line + l] = average(branch, later, from + l, LINE);
-        l += 1;
     }
 }
 
@@ -98,11 +96,9 @@ fn rate_side(downs: &[u64], next: usize, width: usize, later: &[u64], middle: &m
     ensures { (length middle.new ≡ square_size) × Cells (rate_average downs.now next later.now)
         (length downs.now) width middle.new }
 {
-    let mut j: usize = 0;
-    while j < downs.len() {
+    for j in 0..downs.len() {
         let branch = row_branches::row_branch(downs, next, j);
         rate_line(branch, j, width, later, middle);
-        j += 1;
     }
 }
 
@@ -125,11 +121,9 @@ fn spread_column(
         square.old square.new (length rates.now) }
 {
     let low = branch.low;
-    let mut a: usize = 0;
-    while a < rates.len() {
+    for (a, rate) in rates.iter().enumerate() {
         let value = average(branch, middle, LINE * a + low, 1);
-        square[LINE * a + column] = discounted(value, rates[a], spread) + flow;
-        a += 1;
+        square[LINE * a + column] = discounted(value, *rate, spread) + flow;
     }
 }
 
@@ -151,11 +145,9 @@ fn spread_side(
         × Cells (λ a l. spread_value (row_branch downs.now next l) (values rates.now a) (values spreads.now l)
         (cell middle.now a) + flow) (length rates.now) (length spreads.now) square.new }
 {
-    let mut l: usize = 0;
-    while l < spreads.len() {
+    for (l, spread) in spreads.iter().enumerate() {
         let branch = row_branches::row_branch(downs, next, l);
-        spread_column(branch, l, middle, rates, spreads[l], flow, square);
-        l += 1;
+        spread_column(branch, l, middle, rates, *spread, flow, square);
     }
 }
 
@@ -208,24 +200,11 @@ pub(crate) fn greatest_value(lines: usize, width: usize, square: &[u64]) -> u64
     ensures { result ≡ greatest lines (λ a. greatest width (λ l. cell square.now a l)) }
 {
     let mut best: u64 = 0;
-    let mut a: usize = 0;
-    while a < lines {
+    for a in 0..lines {
         let line = arithmetic::greatest_of(part(square, LINE * a, width));
         best = arithmetic::larger(best, line);
-        a += 1;
     }
     best
-}
-
-// One value on each place.
-pub(crate) fn fill(value: u64, row: &mut [u64])
-    ensures { Holds row.new (length row.old) (λ k. value) }
-{
-    let mut k: usize = 0;
-    while k < row.len() {
-        row[k] = value;
-        k += 1;
-    }
 }
 
 // On a listed row, in the first lines: the larger of the rolled value and the exercise value on the bond, which holds the row's flow.
@@ -245,11 +224,8 @@ pub(crate) fn exercise_square(
     if !listed {
         return;
     }
-    let count = LINE * lines;
-    let mut k: usize = 0;
-    while k < count {
+    for k in 0..LINE * lines {
         let now = exercise::expiry_value(call, strike, bonds[k], flow);
         square[k] = arithmetic::larger(square[k], now);
-        k += 1;
     }
 }

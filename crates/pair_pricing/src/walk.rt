@@ -81,7 +81,7 @@ fn lines_of(trees: Trees, row: usize) -> usize
     requires { (trees.rate ≤ most_reversion) × (row ≤ most_pair_steps) }
     ensures { result ≡ node_count trees.rate row }
 {
-    lattice::node_count(trees.rate, row).value as usize
+    lattice::node_count(trees.rate, row).unwrap() as usize
 }
 
 // The greatest value of a row.
@@ -89,8 +89,8 @@ fn greatest_of_row(trees: Trees, row: usize, memory: &[u64; SQUARE]) -> u64
     requires { (trees.rate ≤ most_reversion) × (trees.spread ≤ most_reversion) × (row ≤ most_pair_steps) }
     ensures { result ≡ greatest_pair trees.rate trees.spread row (square memory.now) }
 {
-    let lines = lattice::node_count(trees.rate, row).value as usize;
-    let width = lattice::node_count(trees.spread, row).value as usize;
+    let lines = lattice::node_count(trees.rate, row).unwrap() as usize;
+    let width = lattice::node_count(trees.spread, row).unwrap() as usize;
     squares::greatest_value(lines, width, memory)
 }
 
@@ -142,10 +142,8 @@ pub(crate) fn roll_bond(
     ensures { RolledBond trees.steps trees.rate trees.spread rates.now spreads.now flows.now last result
         bond.new }
 {
-    squares::fill(flow_of(flows, trees.steps), bond);
-    let mut row = trees.steps;
-    while last < row {
-        row -= 1;
+    bond.fill(flow_of(flows, trees.steps));
+    for row in (last..trees.steps).rev() {
         let flow = flow_of(flows, row);
         let top = bond_row(
             trees,
@@ -222,7 +220,7 @@ fn expiry_row(
     ensures { (k : Pair) → Stands (rate_tree trees.rate) (rate_tree trees.spread) row k → square option.new k
         ≡ exercise (side terms.call) terms.strike (square bond.now k - flow) }
 {
-    squares::fill(0, option);
+    option.fill(0);
     squares::exercise_square(
         lines_of(trees, row),
         true,
@@ -256,9 +254,7 @@ fn roll_both(
     ensures { RolledBoth trees.steps trees.rate trees.spread rates.now spreads.now flows.now
         (side terms.call) terms.strike (marked terms.last marks.now) 0 result bond.new option.new }
 {
-    let mut row = terms.last;
-    while 0 < row {
-        row -= 1;
+    for row in (0..terms.last).rev() {
         let flow = flow_of(flows, row);
         let top = bond_row(
             trees,
@@ -323,9 +319,7 @@ pub(crate) fn error_bound(trees: Trees, rates: &[u64], spreads: &[u64]) -> u64
     ensures { result ≡ pair_bound trees.steps trees.rate trees.spread rates.now spreads.now }
 {
     let mut bound: u64 = 0;
-    let mut row = trees.steps;
-    while 0 < row {
-        row -= 1;
+    for row in (0..trees.steps).rev() {
         bound = bound_step(trees, row, rates, spreads, bound);
     }
     bound

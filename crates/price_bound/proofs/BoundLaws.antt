@@ -8,6 +8,7 @@ use native.Mathlib.Nat.{mul-le-mul, not-suc-le-zero}
 use native.Mathlib.Omega.{arith}
 use lib.ListN.{length, take, drop, replicate}
 use lib.Dec.{eqb, leb}
+use Rattle.std.specs.Prelude.{Option, Some, None, MatchOption}
 use borrow.Author.Tests.{eq-eqb, ne_eqb, eqb-true, le-leb, lt-leb}
 use Rattle.arithmetic.specs.Rounding.{one, round_up}
 use Rattle.arithmetic.specs.Row.{values, each}
@@ -151,6 +152,16 @@ module _ (n b i : ℕ) (discounts : List ℕ) (a : Lent n b discounts) (hi : i <
         ∙ ap (λ (m : ℕ). each m (λ k. is_discount (values part k))) l
         ∙ each-cong (node_count b i) _ _
         (λ k h. ap (λ (v : ℕ). is_discount v) (ap (λ (x : List ℕ). values x k) p ∙ part-value discounts (row_start b i) (node_count b i) k h))
+
+    -- both, as the answer of the part
+    pub part-ranged :
+        (part : List ℕ) → part ≡ take (s.start + s.count - s.start) (drop s.start discounts) →
+        (r : Option ℕ) →
+        MatchOption r (each (length part) (λ k. is_discount (values part k)) ≡ false)
+        (λ top. (each (length part) (λ k. is_discount (values part k)) ≡ true) × (top ≡ greatest (length part) (values part))) →
+        MatchOption r (row_accepted b discounts i ≡ false) (λ top. (row_accepted b discounts i ≡ true) × (top ≡ row-greatest))
+    part-ranged part ep None e = sym (judged-part _ part ep refl) ∙ e
+    part-ranged part ep (Some top) e = (sym (judged-part _ part ep refl) ∙ e.0, greatest-part top part ep e.1)
 
 -- numbers above 0 are accepted where the greatest is
 most-of-two : (x y m : ℕ) → leb (max x y) m ≡ leb x m && leb y m

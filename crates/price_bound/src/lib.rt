@@ -1,22 +1,30 @@
 // How far the prices on a tree may be from the exact ones, and the greatest discounts of its rows, from its lent discounts.
 #![tactic(auto)]
 
-ghost use Rattle.std.specs.Prelude.{◌≡◌, true, false, ◌<◌, length, replicate};
+ghost use Rattle.std.specs.Prelude.{◌≡◌, true, false, ◌<◌, length, replicate, MatchOption};
 ghost use Rattle.limits.specs.Limits.{most_steps, is_discount};
 ghost use Rattle.lattice.specs.RateTree.{rate_tree};
 ghost use Rattle.lent_tree.specs.LentTree.{stored, accepted_discounts};
 ghost use Rattle.lent_tree.specs.inside.Lent.{Lent};
+ghost use Rattle.arithmetic.specs.Refusals.{answer_of};
 ghost use Rattle.arithmetic.specs.Row.{values, each};
 ghost use Rattle.arithmetic.specs.Sum.{greatest};
 ghost use Rattle.pricing_laws.specs.Pricer.{error_bound};
 ghost use Rattle.pricing_laws.specs.TreePricer.{greatest_discount, roll_loss};
-ghost use Rattle.price_bound.specs.PriceBound.{price_error_bound_answer, greatest_discounts, refused_bounds, tree_bounds_answer};
+ghost use Rattle.price_bound.specs.PriceBound.{price_error_bound_answer, greatest_discounts, tree_bounds_of, tree_bounds_answer};
 ghost use Rattle.price_bound.specs.inside.Rows.{row_accepted, RowsBounded};
 
-use arithmetic::{Answer, ONE};
+use arithmetic::{ONE, Refusal};
 use limits::MOST_STEPS;
 
-// What is known of a tree: its error bound, and the greatest discount of each row, 0 for rows that the tree has not; a refusal's number with zeros.
+// What is known of a tree: its error bound, and the greatest discount of each row, 0 for rows that the tree has not.
+#[derive(Clone, Copy)]
+pub struct TreeBounds {
+    pub bound: u64,
+    pub greatest: [u64; MOST_STEPS],
+}
+
+// The same as C sees it: number 0, or a refusal's number with zeros.
 #[repr(C)]
 #[derive(Drop)]
 pub struct TreeErrorBounds {
@@ -25,54 +33,55 @@ pub struct TreeErrorBounds {
     pub greatest: [u64; MOST_STEPS],
 }
 
-// The discounts of a row, or of all rows: whether they are accepted, and the greatest of each row.
-#[derive(Drop)]
-struct RowRange {
-    within: bool,
-    greatest: u64,
-}
+impl From<Result<TreeBounds, Refusal>> for TreeErrorBounds {
+    ghost from_gives = { λ outcome bounds. bounds ≡ tree_bounds_of outcome };
 
-#[derive(Drop)]
-struct TreeRange {
-    within: bool,
-    greatest: [u64; MOST_STEPS],
-}
-
-// A row with a discount that is not accepted.
-fn refused_row() -> RowRange
-    ensures { result.within ≡ false }
-{
-    RowRange {
-        within: false,
-        greatest: 0,
+    fn from(outcome: Result<TreeBounds, Refusal>) -> TreeErrorBounds {
+        match outcome {
+            Ok(known) => {
+                let greatest = known.greatest;
+                TreeErrorBounds {
+                    number: 0,
+                    bound: known.bound,
+                    greatest,
+                }
+            }
+            Err(refusal) => {
+                let none = no_rows();
+                TreeErrorBounds {
+                    number: refusal.number(),
+                    bound: 0,
+                    greatest: none,
+                }
+            }
+        }
     }
 }
 
-// One pass: the least discount and the greatest decide whether all are accepted.
-fn range_of(discounts: &[u64]) -> RowRange
-    ensures within { result.within ≡ each (length discounts.now) (λ k. is_discount (values discounts.now k)) }
-    ensures greatest { result.within ≡ true → result.greatest ≡ greatest (length discounts.now) (values discounts.now) }
+// The greatest of these discounts, or none where one is not accepted. One pass: the least discount and the greatest decide.
+fn range_of(discounts: &[u64]) -> Option<u64>
+    ensures { MatchOption result (each (length discounts.now) (λ k. is_discount (values discounts.now k)) ≡ false)
+        (λ top. (each (length discounts.now) (λ k. is_discount (values discounts.now k)) ≡ true)
+        × (top ≡ greatest (length discounts.now) (values discounts.now))) }
 {
     let mut top: u64 = 0;
-    let mut k: usize = 0;
-    while k < discounts.len() {
-        let discount = discounts[k];
-        if discount < 1 {
-            return refused_row();
+    for discount in discounts {
+        if *discount < 1 {
+            return None;
         }
-        top = arithmetic::larger(top, discount);
-        k += 1;
+        top = arithmetic::larger(top, *discount);
     }
-    RowRange {
-        within: top <= limits::MOST_DISCOUNT,
-        greatest: top,
+    if limits::MOST_DISCOUNT < top {
+        return None;
     }
+    Some(top)
 }
 
-fn row_range(steps: usize, reversion: u64, row: usize, discounts: &[u64]) -> RowRange
+// The same of a row.
+fn row_range(steps: usize, reversion: u64, row: usize, discounts: &[u64]) -> Option<u64>
     requires { Lent steps reversion discounts.now × (row < steps) }
-    ensures within { result.within ≡ row_accepted reversion discounts.now row }
-    ensures greatest { result.within ≡ true → result.greatest ≡ greatest_discount (rate_tree reversion) (stored reversion discounts.now) row }
+    ensures { MatchOption result (row_accepted reversion discounts.now row ≡ false) (λ top. (row_accepted reversion discounts.now row ≡ true)
+        × (top ≡ greatest_discount (rate_tree reversion) (stored reversion discounts.now) row)) }
 {
     let shape = lattice::row_shape(reversion, steps, row);
     let start = shape.start;
@@ -87,36 +96,17 @@ fn no_rows() -> [u64; MOST_STEPS]
     [0; MOST_STEPS]
 }
 
-// A tree with a row that is not accepted.
-fn refused_tree() -> TreeRange
-    ensures { result.within ≡ false }
-{
-    let none = no_rows();
-    TreeRange {
-        within: false,
-        greatest: none,
-    }
-}
-
-fn tree_range(steps: usize, reversion: u64, discounts: &[u64]) -> TreeRange
+// The greatest discount of each row, or none where a discount is not accepted.
+fn tree_range(steps: usize, reversion: u64, discounts: &[u64]) -> Option<[u64; MOST_STEPS]>
     requires { Lent steps reversion discounts.now }
-    ensures within { result.within ≡ accepted_discounts steps reversion discounts.now }
-    ensures greatest { result.within ≡ true → result.greatest ≡ greatest_discounts steps reversion discounts.now }
+    ensures { MatchOption result (accepted_discounts steps reversion discounts.now ≡ false)
+        (λ rows. (accepted_discounts steps reversion discounts.now ≡ true) × (rows ≡ greatest_discounts steps reversion discounts.now)) }
 {
     let mut rows = no_rows();
-    let mut row: usize = 0;
-    while row < steps {
-        let range = row_range(steps, reversion, row, discounts);
-        if !range.within {
-            return refused_tree();
-        }
-        rows[row] = range.greatest;
-        row += 1;
+    for row in 0..steps {
+        rows[row] = row_range(steps, reversion, row, discounts)?;
     }
-    TreeRange {
-        within: true,
-        greatest: rows,
-    }
+    Some(rows)
 }
 
 // The error bound of row 0, from the greatest discounts of the rows.
@@ -125,53 +115,31 @@ fn error_bound(steps: usize, rows: [u64; MOST_STEPS]) -> u64
     ensures { result ≡ error_bound roll_loss (values rows) steps 0 }
 {
     let mut bound: u64 = 0;
-    let mut row = steps;
-    while 0 < row {
-        row -= 1;
+    for row in (0..steps).rev() {
         bound = (rows[row] * bound + (ONE - 1)) / ONE + 2;
     }
     bound
 }
 
-fn refused_bounds(number: u64) -> TreeErrorBounds
-    ensures { result ≡ refused_bounds number }
-{
-    let none = no_rows();
-    TreeErrorBounds {
-        number,
-        bound: 0,
-        greatest: none,
-    }
-}
-
 // The error bound of bonds and options on the tree whose discounts are lent, and the greatest discounts of its rows; 3, 4, 6 or 9 where the tree
 // is refused. The discounts are judged in the pass that looks for the greatest.
-pub fn tree_bounds(steps: usize, reversion: u64, discounts: &[u64]) -> TreeErrorBounds
-    ensures { result ≡ tree_bounds_answer steps reversion discounts.now }
+pub fn tree_bounds(steps: usize, reversion: u64, discounts: &[u64]) -> Result<TreeBounds, Refusal>
+    ensures { tree_bounds_of result ≡ tree_bounds_answer steps reversion discounts.now }
 {
-    let cause = lent_tree::room_cause(steps, reversion, discounts);
-    if cause != 0 {
-        return refused_bounds(cause);
-    }
-    let range = tree_range(steps, reversion, discounts);
-    if !range.within {
-        return refused_bounds(9);
-    }
-    let rows = range.greatest;
-    TreeErrorBounds {
-        number: 0,
-        bound: error_bound(steps, rows),
-        greatest: rows,
-    }
+    lent_tree::room_cause(steps, reversion, discounts)?;
+    let Some(greatest) = tree_range(steps, reversion, discounts) else {
+        return Err(Refusal::Discount);
+    };
+    Ok(TreeBounds {
+        bound: error_bound(steps, greatest),
+        greatest,
+    })
 }
 
 // The error bound alone.
-pub fn price_error_bound(steps: usize, reversion: u64, discounts: &[u64]) -> Answer
-    ensures { result ≡ price_error_bound_answer steps reversion discounts.now }
+pub fn price_error_bound(steps: usize, reversion: u64, discounts: &[u64]) -> Result<u64, Refusal>
+    ensures { answer_of result ≡ price_error_bound_answer steps reversion discounts.now }
 {
-    let found = tree_bounds(steps, reversion, discounts);
-    Answer {
-        number: found.number,
-        value: found.bound,
-    }
+    let known = tree_bounds(steps, reversion, discounts)?;
+    Ok(known.bound)
 }

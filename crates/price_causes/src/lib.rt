@@ -2,54 +2,57 @@
 #![tactic(auto)]
 
 ghost use Rattle.std.specs.Prelude.{◌≡◌};
+ghost use Rattle.arithmetic.specs.Refusals.{cause_of};
 ghost use Rattle.price_causes.specs.Causes.{flows_cause, option_cause, terms_cause};
+
+use arithmetic::Refusal;
 
 const MOST_STRIKE: u64 = 4_000_000_000;
 
-// The cause about flows: 6 where they are not as many as the steps, then 10 for one above its limit; 0 where there is none.
-pub fn flows_cause(steps: usize, flows: &[u64]) -> u64
-    ensures { result ≡ flows_cause steps flows.now }
+// The cause about flows: 6 where they are not as many as the steps, then 10 for one above its limit.
+pub fn flows_cause(steps: usize, flows: &[u64]) -> Result<(), Refusal>
+    ensures { cause_of result ≡ flows_cause steps flows.now }
 {
     if flows.len() != steps {
-        return 6;
+        return Err(Refusal::LengthOrRow);
     }
     if !arithmetic::all_between(0, 2_000_000_000, flows) {
-        return 10;
+        return Err(Refusal::Flow);
     }
-    0
+    Ok(())
 }
 
-// The cause about an option's kind, expiry and strike; 0 where there is none.
-pub fn option_cause(steps: usize, kind: u64, expiry: usize, strike: u64) -> u64
-    ensures { result ≡ option_cause steps kind expiry strike }
+// The cause about an option's kind, expiry and strike.
+pub fn option_cause(steps: usize, kind: u64, expiry: usize, strike: u64) -> Result<(), Refusal>
+    ensures { cause_of result ≡ option_cause steps kind expiry strike }
 {
     if kind < 1 {
-        return 11;
+        return Err(Refusal::Option);
     }
     if 4 < kind {
-        return 11;
+        return Err(Refusal::Option);
     }
     if steps <= expiry {
-        return 11;
+        return Err(Refusal::Option);
     }
     if MOST_STRIKE < strike {
-        return 11;
+        return Err(Refusal::Option);
     }
-    0
+    Ok(())
 }
 
-// The cause about a dated option's side and strike; 0 where there is none.
-pub fn terms_cause(side: u64, strike: u64) -> u64
-    ensures { result ≡ terms_cause side strike }
+// The cause about a dated option's side and strike.
+pub fn terms_cause(side: u64, strike: u64) -> Result<(), Refusal>
+    ensures { cause_of result ≡ terms_cause side strike }
 {
     if side < 1 {
-        return 11;
+        return Err(Refusal::Option);
     }
     if 2 < side {
-        return 11;
+        return Err(Refusal::Option);
     }
     if MOST_STRIKE < strike {
-        return 11;
+        return Err(Refusal::Option);
     }
-    0
+    Ok(())
 }

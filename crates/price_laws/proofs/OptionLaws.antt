@@ -70,7 +70,8 @@ module _ (n kind expiry strike : ℕ) {cause : ℕ} (ec : cause ≡ option_cause
 
 -- ---- an option on listed rows
 
-pub dated-accepted : (n number : ℕ) (dates : List ℕ) (strike : ℕ) → dated_cause n number dates strike ≡ 0 → (last_date dates < n) × (terms_cause number strike ≡ 0)
+pub dated-accepted : (n number : ℕ) (dates : List ℕ) (strike : ℕ) → dated_cause n number dates strike ≡ 0 →
+    (last_date dates < n) × (terms_cause number strike ≡ 0)
 unfolding dated_cause
 dated-accepted n number dates strike z =
     let parts = lowest-none (terms_cause number strike) (dates_cause n dates) z in

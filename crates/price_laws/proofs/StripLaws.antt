@@ -124,7 +124,8 @@ module _ (n b : ℕ) (discounts flows strikes : List ℕ) (e : ℕ) where
 
     -- with the tree's own bound each is the price
     pub strip-whole : (tree_cause n b discounts flows ≡ 0 → e ≡ tree_error_bound n b discounts) →
-        strip_answer n b (length strikes) (each_with e (strike_price n b discounts flows side dates strikes)) ≡ option_strip n b discounts flows side dates strikes
+        strip_answer n b (length strikes) (each_with e (strike_price n b discounts flows side dates strikes))
+        ≡ option_strip n b discounts flows side dates strikes
     strip-whole he = strip-alike n b (length strikes) _ _ (λ k. dated-whole implied he side dates (values strikes k))
 
   -- ---- of a kind

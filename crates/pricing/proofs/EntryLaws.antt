@@ -14,7 +14,7 @@ use Rattle.arithmetic.proofs.CauseLaws.{lowest-none}
 use Rattle.limits.specs.Limits.{most_steps, most_reversion, most_nodes, limit_cause}
 use Rattle.limits.proofs.LimitLaws.{limit-kept, limit-accepted}
 use Rattle.lattice.specs.Shape.{half_width, node_count}
-use Rattle.lattice.specs.Entries.{about_row, table_of}
+use Rattle.lattice.specs.Entries.{about_row, table_of, table_number}
 use Rattle.lattice.proofs.EntryLaws.{row-found}
 use Rattle.lattice.proofs.Sizes.{count-positive, count-within}
 use Rattle.lattice.proofs.TableLaws as tables
@@ -22,6 +22,11 @@ use Rattle.lent_tree.specs.LentTree.{discounts_cause}
 use Rattle.pricing_laws.specs.Pricer.{Side, Schedule}
 use Rattle.pricing_laws.specs.Schedule.{last_date, kind_dates}
 use Rattle.pricing_laws.proofs.Dates.{kind-last}
+use Rattle.std.proofs.Common.{Result}
+use Rattle.std.specs.Result.{IsOk}
+use Rattle.arithmetic.specs.Refusals.{cause_of}
+use Rattle.arithmetic.specs.declared.Refusal.{Refusal}
+use Rattle.arithmetic.proofs.RefusalLaws.{cause-ok}
 use Rattle.exercise.specs.declared.Terms.{Terms}
 use Rattle.exercise.specs.Terms.{terms_of}
 use Rattle.exercise.proofs.KindLaws.{strike-found, last_found}
@@ -50,6 +55,16 @@ module _ (n b : ℕ) (hn : n ≤ most_steps) (hb : b ≤ most_reversion) (a : An
   unfolding node_count
   widest_fits e = omega (arith, answer-value (half_width b n) e, count-within b n hn)
 
+  -- the table is not refused
+  pub table-ok :
+      (t : List ℕ) → length t ≡ most_nodes → a ≡ about_row b n (half_width b n) → {A : Type 0} (r : Result A Refusal) →
+      cause_of r ≡ table_number b a.value (length (take (2 * a.value + 1) t)) → IsOk r
+  unfolding node_count
+  table-ok t room e r er =
+      let w : a.value ≡ half_width b n = answer-value (half_width b n) e in
+      let long : length (take (2 * half_width b n + 1) t) ≡ 2 * half_width b n + 1 = simp length-take (omega (arith, count-within b n hn)) in
+      cause-ok r (er ∙ rw w (tables.table_fits b n (take (2 * half_width b n + 1) t) hb hn long).0)
+
   -- the table that the lattice fills at the start of a row is the table of row n
   pub table_filled :
       (t after : List ℕ) → length t ≡ most_nodes → a ≡ about_row b n (half_width b n) → after ≡ table_of b a.value (take (2 * a.value + 1) t) →
@@ -77,7 +92,8 @@ pub prefix-length : (k : ℕ) (t : List ℕ) → k ≤ length t → k ≡ length
 prefix-length k t h = sym (simp length-take (omega arith))
 
 -- the error bound of a tree, and the cause about it and its flows, as the code works them out
-pub tree-bounded : {n b : ℕ} {discounts flows : List ℕ} {a : Answer} {f c : ℕ} → a ≡ price_error_bound_answer n b discounts → f ≡ flows_cause n flows →
+pub tree-bounded : {n b : ℕ} {discounts flows : List ℕ} {a : Answer} {f c : ℕ} →
+    a ≡ price_error_bound_answer n b discounts → f ≡ flows_cause n flows →
     c ≡ lowest_cause a.number f → TreeBounded n b discounts flows (record { number = c; value = a.value })
 unfolding tree_cause price_error_bound_answer
 tree-bounded {n} {b} {discounts} {flows} ea ef ec =
@@ -119,8 +135,8 @@ module _ {n b : ℕ} {discounts flows : List ℕ} where
       beside-given z = priced-given 0 _ _ _ _ (bond-passed z) refl (s.bond-held z)
 
 -- an option by its kind, and one on listed rows, that the tree may have
-module _ (n kind expiry strike : ℕ) {cause : ℕ} (ec : cause ≡ option_cause n kind expiry strike) (terms : Terms) (et : terms ≡ terms_of kind expiry strike)
-    (dates : Dates) (ed : dates ≡ dates_of_kind kind expiry) where
+module _ (n kind expiry strike : ℕ) {cause : ℕ} (ec : cause ≡ option_cause n kind expiry strike) (terms : Terms)
+    (et : terms ≡ terms_of kind expiry strike) (dates : Dates) (ed : dates ≡ dates_of_kind kind expiry) where
   abbrev handed : List ℕ
   handed = take dates.count dates.rows
 

@@ -13,6 +13,7 @@ use Rattle.arithmetic.proofs.SumLaws.{greatest-none, greatest-next}
 use Rattle.arithmetic.proofs.RowLaws.{Filled, filled_next}
 use Rattle.arithmetic.proofs.Implied.{Implied, lastly, ◌▸◌}
 use Rattle.tree.specs.Tree.{probability_total}
+use Rattle.limits.specs.Limits.{most_discount}
 use Rattle.pricing_laws.specs.Pricer.{Side, exercise, held_or_exercised}
 use Rattle.row_branches.specs.declared.RowBranch.{RowBranch}
 use Rattle.row_branches.specs.RowBranches.{opposite, row_branch}
@@ -36,6 +37,10 @@ module _ (downs discounts : List ℕ) (span : Span) (k : ℕ) (r : Rollable down
   pub span-whole : values downs k + opposite downs k ≤ probability_total
   span-whole = (branch-filled downs span.next k (r.total k within)).0
 
+  -- what `span_branch` asks
+  pub span-asks : (k < length downs) × (span.shift ≤ k) × (values downs k + opposite downs k ≤ probability_total)
+  span-asks = (span-inside, span-shifted, span-whole)
+
   pub span-is : (b : RowBranch) → b ≡ span_branch downs span.shift k → b ≡ row_branch downs span.next k
   span-is b e =
       e ∙ ap (λ (x : ℕ). record { low = x; probabilities = (span_branch downs span.shift k).probabilities }) (sym (l.leads k from to))
@@ -55,6 +60,10 @@ module _ {downs discounts later : List ℕ} {next k : ℕ} (r : Rollable downs d
 
   pub branch-limited : Limited later (b.low + 3)
   branch-limited j h = l.limited j (omega (arith, low-is, r.inside k hk))
+
+  -- what `roll_node` asks
+  pub branch-asks : (b.low + 2 < length later) × (branch_total b ≡ probability_total) × Limited later (b.low + 3) × (values discounts k ≤ most_discount)
+  branch-asks = (branch-inside, branch-whole, branch-limited, r.discounted k hk)
 
   pub branch-rolled : (x : ℕ) → x ≡ branch_roll b (values later) (values discounts k) → x ≡ rolled_row later downs discounts next k
   unfolding rolled_row
@@ -101,7 +110,8 @@ rows_none bond option f g =
     }
 
 -- behind nodes that are done
-pub rows-resume : {bond option : List ℕ} {f g : ℕ → ℕ} {top k : ℕ} → FilledRows bond option k f g top → Rows-state bond bond option option f g top k
+pub rows-resume : {bond option : List ℕ} {f g : ℕ → ℕ} {top k : ℕ} →
+    FilledRows bond option k f g top → Rows-state bond bond option option f g top k
 rows-resume s =
     record {
       bond-filled = record { same = refl; done = s.bond-held; rest = λ j h. refl };

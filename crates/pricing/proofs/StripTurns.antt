@@ -131,7 +131,8 @@ module _ {n b : ℕ} {downs discounts flows : List ℕ} (ready : Ready n b downs
           }
 
   -- what a step to the row before asks: a flow and a mark
-  pub alone-before : (r : ℕ) (option : List ℕ) → 0 < r → Alone n b discounts flows terms marks r option → (r - 1 ≤ length flows) × (r - 1 < length marks)
+  pub alone-before : (r : ℕ) (option : List ℕ) → 0 < r → Alone n b discounts flows terms marks r option →
+      (r - 1 ≤ length flows) × (r - 1 < length marks)
   alone-before r option some s =
       (omega (arith, ready.paid.count, s.upto, x.last-inside), omega (arith, s.upto, x.marked-rows))
 

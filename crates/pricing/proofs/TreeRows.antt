@@ -57,7 +57,8 @@ module _ (n b i : ℕ) (hi : i < n) (discounts : List ℕ) (a : Accepted n b dis
   unfolding stored
   discount-part-at k h = part-value discounts (row_start b i) (node_count b i) k h
 
-  total-is : (k : ℕ) → k < node_count b i → up_probability b (node b i k) + middle_probability b (node b i k) + down_probability b (node b i k) ≡ probability_total
+  total-is : (k : ℕ) → k < node_count b i →
+      up_probability b (node b i k) + middle_probability b (node b i k) + down_probability b (node b i k) ≡ probability_total
   total-is k h = (index-laws b i k h a.limits.reversion-within-limit).total
 
   branch-is : (k : ℕ) → k < node_count b i →

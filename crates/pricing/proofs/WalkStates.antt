@@ -190,7 +190,9 @@ module _ (n b : ℕ) (discounts flows : List ℕ) (a : Accepted n b discounts) (
           ≡ held_or_exercised (rows.listed (r - 1)) (rolled_at b discounts (r - 1) options k) (exercise side strike (rolled_at b discounts (r - 1) bonds k))
       option-value-is k h =
           filled.option-held k h
-          ∙ ap (λ (t : Bool). held_or_exercised t (rolled_at b discounts (r - 1) options k) (exercise side strike (rolled_at b discounts (r - 1) bonds k))) el
+          ∙ ap
+          (λ (t : Bool). held_or_exercised t (rolled_at b discounts (r - 1) options k) (exercise side strike (rolled_at b discounts (r - 1) bonds k)))
+          el
 
       bond-found : ℕ
       bond-found = greatest (node_count b (r - 1)) (values bond)
@@ -267,7 +269,8 @@ module _ (n b : ℕ) (discounts flows : List ℕ) (a : Accepted n b discounts) (
         }
 
     pub both-rolled :
-        (r : ℕ) (bonds l : List ℕ) → r ≡ 0 → Bonds n b discounts flows r bonds → Right r l → BothRolled n b discounts flows side strike rows (stood bonds l)
+        (r : ℕ) (bonds l : List ℕ) → r ≡ 0 → Bonds n b discounts flows r bonds → Right r l →
+        BothRolled n b discounts flows side strike rows (stood bonds l)
     both-rolled r bonds l e s o =
         at-root bonds l (subst (λ (x : ℕ). Bonds n b discounts flows x bonds) e s) (subst (λ (x : ℕ). Right x l) e o)
 

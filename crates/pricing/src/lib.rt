@@ -53,10 +53,10 @@ fn table_of(steps: usize, reversion: u64) -> [u64; limits::MOST_NODES]
     requires { (steps ≤ most_steps) × (reversion ≤ most_reversion) }
     ensures { take (node_count reversion steps) result ≡ down_table steps reversion }
 {
-    let widest = lattice::half_width(reversion, steps).value as usize;
+    let widest = lattice::half_width(reversion, steps).unwrap() as usize;
     let nodes = 2 * widest + 1;
     let mut table = rows::empty_row();
-    branches::down_probabilities(reversion, widest, &mut table[..nodes]);
+    branches::down_probabilities(reversion, widest, &mut table[..nodes]).unwrap();
     table
 }
 
@@ -65,17 +65,25 @@ fn accepted_bond(tree: TreeShape, discounts: &[u64], flows: &[u64], bound: u64) 
     requires { Accepted tree.steps tree.reversion discounts.now × AcceptedFlows tree.steps flows.now }
     ensures { result ≡ accepted_bond tree.steps tree.reversion discounts.now flows.now bound }
 {
-    let nodes = lattice::node_count(tree.reversion, tree.steps).value as usize;
+    let nodes = lattice::node_count(tree.reversion, tree.steps).unwrap() as usize;
     let table = table_of(tree.steps, tree.reversion);
-    let mut bond = rows::empty_row();
-    let number = walk::roll_bond(tree, 0, &table[..nodes], discounts, flows, &mut bond);
-    if number != 0 {
-        return refused(number);
-    }
-    Price {
-        number: 0,
-        value: bond[0],
-        bound,
+    let mut first = rows::empty_row();
+    let mut second = rows::empty_row();
+    match walk::roll_bond(
+        tree,
+        0,
+        &table[..nodes],
+        discounts,
+        flows,
+        &mut first,
+        &mut second,
+    ) {
+        Some(bond) => Price {
+            number: 0,
+            value: bond[0],
+            bound,
+        },
+        None => refused(12),
     }
 }
 
@@ -94,7 +102,7 @@ fn accepted_both(
     ensures option { result.option ≡ accepted_option tree.steps tree.reversion discounts.now flows.now (side terms.call)
         terms.strike (marked terms.last marks.now) bound }
 {
-    let nodes = lattice::node_count(tree.reversion, tree.steps).value as usize;
+    let nodes = lattice::node_count(tree.reversion, tree.steps).unwrap() as usize;
     let table = table_of(tree.steps, tree.reversion);
     let rolled = walk::roll_both(tree, terms, marks, &table[..nodes], discounts, flows);
     if rolled.number != 0 {
@@ -123,18 +131,22 @@ fn tree_bound(steps: usize, reversion: u64, discounts: &[u64], flows: &[u64]) ->
     ensures { TreeBounded steps reversion discounts.now flows.now result }
 {
     let bound = price_bound::price_error_bound(steps, reversion, discounts);
+    let cause = arithmetic::lowest_refusal(bound, price_causes::flows_cause(steps, flows));
     Answer {
-        number: arithmetic::lowest_cause(bound.number, price_causes::flows_cause(steps, flows)),
-        value: bound.value,
+        number: arithmetic::cause(cause),
+        value: bound.unwrap_or(0),
     }
 }
 
 fn tree_cause(steps: usize, reversion: u64, discounts: &[u64], flows: &[u64]) -> Answer
     ensures { result.number ≡ tree_cause steps reversion discounts.now flows.now }
 {
-    let about_tree = lent_tree::discounts_cause(steps, reversion, discounts);
+    let cause = arithmetic::lowest_refusal(
+        lent_tree::discounts_cause(steps, reversion, discounts),
+        price_causes::flows_cause(steps, flows),
+    );
     Answer {
-        number: arithmetic::lowest_cause(about_tree, price_causes::flows_cause(steps, flows)),
+        number: arithmetic::cause(cause),
         value: 0,
     }
 }
@@ -197,7 +209,7 @@ fn both_of_kind(
     ensures { result ≡ both_with (both_values (bond_and_option tree.steps tree.reversion discounts.now flows.now kind expiry strike))
         bound.value }
 {
-    let cause = price_causes::option_cause(tree.steps, kind, expiry, strike);
+    let cause = arithmetic::cause(price_causes::option_cause(tree.steps, kind, expiry, strike));
     let terms = exercise::terms_of(kind, expiry, strike);
     let dates = exercise_dates::dates_of_kind(kind, expiry);
     let rows = dates.rows;
@@ -218,7 +230,7 @@ fn both_on_dates(
     ensures { result ≡ both_with (both_values (bond_and_dated_option tree.steps tree.reversion discounts.now flows.now side
         dates.now strike)) bound.value }
 {
-    let about_terms = price_causes::terms_cause(side, strike);
+    let about_terms = arithmetic::cause(price_causes::terms_cause(side, strike));
     let about_dates = exercise_dates::dates_cause(tree.steps, dates);
     let cause = arithmetic::lowest_cause(about_terms, about_dates);
     let terms = exercise_dates::terms_on(side, dates, strike);
@@ -407,7 +419,7 @@ fn accepted_strip(
     ensures { result ≡ strip_of (length strikes.now) (each_with bound
         (strike_price tree.steps tree.reversion discounts.now flows.now side dates.now strikes.now)) }
 {
-    let nodes = lattice::node_count(tree.reversion, tree.steps).value as usize;
+    let nodes = lattice::node_count(tree.reversion, tree.steps).unwrap() as usize;
     let table = table_of(tree.steps, tree.reversion);
     let mut kept = limits::discount_room();
     let bond = walk::keep_bond(tree, &table[..nodes], discounts, flows, &mut kept);
@@ -496,7 +508,7 @@ fn strip_of_kind(
     ensures { result ≡ strip_answer tree.steps tree.reversion (length strikes.now) (each_with bound.value
         (kind_price tree.steps tree.reversion discounts.now flows.now kind expiry strikes.now)) }
 {
-    let cause = price_causes::option_cause(tree.steps, kind, expiry, 0);
+    let cause = arithmetic::cause(price_causes::option_cause(tree.steps, kind, expiry, 0));
     if cause != 0 {
         return refused_kind(tree, bound, cause, strikes.len());
     }

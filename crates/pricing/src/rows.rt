@@ -144,17 +144,13 @@ fn bond_nodes(
     ensures { FilledRow row.new span.to
         (bond_values later.now downs.now discounts.now span.next flow) result }
 {
-    let next = span.next;
-    let to = span.to;
     let shift = span.shift;
     let mut top = greatest;
-    let mut k = span.from;
-    while k < to {
+    for k in span.from..span.to {
         let branch = span_branch(downs, shift, k);
         let value = roll_node(branch, later, discounts[k]) + flow;
         row[k] = value;
         top = arithmetic::larger(top, value);
-        k += 1;
     }
     top
 }
@@ -228,12 +224,9 @@ fn option_nodes(
     let strike = right.strike;
     let listed = right.listed;
     let flow = right.flow;
-    let next = span.next;
-    let to = span.to;
     let shift = span.shift;
     let mut top = greatest;
-    let mut k = span.from;
-    while k < to {
+    for k in span.from..span.to {
         let branch = span_branch(downs, shift, k);
         let discount = discounts[k];
         let bare = roll_node(branch, bonds, discount);
@@ -243,7 +236,6 @@ fn option_nodes(
         bond[k] = value;
         option[k] = held;
         top = arithmetic::larger(top, arithmetic::larger(value, held));
-        k += 1;
     }
     top
 }
@@ -318,21 +310,8 @@ pub(crate) fn exercise_row(terms: Terms, flow: u64, count: usize, bond: &[u64], 
 {
     let call = terms.call;
     let strike = terms.strike;
-    let mut k: usize = 0;
-    while k < count {
-        option[k] = exercise::expiry_value(call, strike, bond[k], flow);
-        k += 1;
-    }
-}
-
-// One value on each node of a row.
-pub(crate) fn fill_row(value: u64, row: &mut [u64])
-    ensures { Holds row.new (length row.old) (λ k. value) }
-{
-    let mut k: usize = 0;
-    while k < row.len() {
-        row[k] = value;
-        k += 1;
+    for (k, value) in bond[..count].iter().enumerate() {
+        option[k] = exercise::expiry_value(call, strike, *value, flow);
     }
 }
 
@@ -347,10 +326,8 @@ pub(crate) fn keep_row(
     requires { (count ≤ most_nodes) × (start + count ≤ length kept.old) × Paid bond.now count flow }
     ensures { Laid kept.old kept.new start count (λ k. values bond.now k - flow) }
 {
-    let mut k: usize = 0;
-    while k < count {
-        kept[start + k] = bond[k] - flow;
-        k += 1;
+    for (k, value) in bond[..count].iter().enumerate() {
+        kept[start + k] = *value - flow;
     }
 }
 
@@ -362,10 +339,8 @@ pub(crate) fn first_row(terms: Terms, bare: &[u64], option: &mut [u64])
 {
     let call = terms.call;
     let strike = terms.strike;
-    let mut k: usize = 0;
-    while k < bare.len() {
-        option[k] = exercise::exercise_value(call, strike, bare[k]);
-        k += 1;
+    for (k, value) in bare.iter().enumerate() {
+        option[k] = exercise::exercise_value(call, strike, *value);
     }
 }
 
@@ -392,18 +367,14 @@ fn strike_nodes(
     let call = right.call;
     let strike = right.strike;
     let listed = right.listed;
-    let next = span.next;
-    let to = span.to;
     let shift = span.shift;
     let mut top = greatest;
-    let mut k = span.from;
-    while k < to {
+    for k in span.from..span.to {
         let branch = span_branch(downs, shift, k);
         let roll = roll_node(branch, options, discounts[k]);
         let held = exercise::held_value(call, strike, listed, roll, bare[k]);
         option[k] = held;
         top = arithmetic::larger(top, held);
-        k += 1;
     }
     top
 }

@@ -29,7 +29,7 @@ fn no_answers() -> [u64; MOST_STRIKES]
 pub(crate) fn strip_cause(steps: usize, reversion: u64, count: usize) -> u64
     ensures { result ≡ strip_cause steps reversion count }
 {
-    let shape = limits::shape_cause(steps, reversion);
+    let shape = arithmetic::cause(limits::shape_cause(steps, reversion));
     if shape != 0 {
         return shape;
     }
@@ -61,11 +61,7 @@ pub(crate) fn refused_prices(number: u64, count: usize) -> Strip
 {
     let zeros = no_answers();
     let mut numbers = no_answers();
-    let mut k: usize = 0;
-    while k < count {
-        numbers[k] = number;
-        k += 1;
-    }
+    numbers[..count].fill(number);
     Strip {
         number: 0,
         numbers,
@@ -89,7 +85,7 @@ fn strike_price(
     ensures { result ≡ with_bound (value_alone (dated_price shared.steps shared.reversion discounts.now flows.now
         shared.side dates.now strike)) shared.bound }
 {
-    let about_terms = price_causes::terms_cause(shared.side, strike);
+    let about_terms = arithmetic::cause(price_causes::terms_cause(shared.side, strike));
     let cause = arithmetic::lowest_cause(about_terms, shared.list);
     if cause != 0 {
         return crate::refused(cause);
@@ -132,15 +128,11 @@ pub(crate) fn strike_prices(
     let mut numbers = no_answers();
     let mut values = no_answers();
     let mut bounds = no_answers();
-    let mut k: usize = 0;
-    while k < strikes.len() {
-        let price = strike_price(
-            shared, dates, marks, downs, discounts, flows, kept, strikes[k],
-        );
+    for (k, strike) in strikes.iter().enumerate() {
+        let price = strike_price(shared, dates, marks, downs, discounts, flows, kept, *strike);
         numbers[k] = price.number;
         values[k] = price.value;
         bounds[k] = price.bound;
-        k += 1;
     }
     Strip {
         number: 0,

@@ -1,5 +1,5 @@
 // The way back through the tree, row by row.
-ghost use Rattle.std.specs.Prelude.{◌≡◌, ◌+◌, ◌-◌, ◌<◌, ◌≤◌, length, take, drop};
+ghost use Rattle.std.specs.Prelude.{◌≡◌, ◌+◌, ◌-◌, ◌<◌, ◌≤◌, [], length, take, drop, MatchOption};
 ghost use Rattle.arithmetic.specs.Row.{values};
 ghost use Rattle.arithmetic.specs.Answers.{refused, answered};
 ghost use Rattle.lattice.specs.Shape.{node_count, row_start};
@@ -26,6 +26,7 @@ use crate::rows::RowRight;
 use arithmetic::Answer;
 use exercise::Terms;
 use limits::MOST_NODES;
+use std::mem;
 
 // A tree's number of steps and its reversion.
 #[derive(Clone, Copy)]
@@ -121,7 +122,8 @@ fn bond_step(
     )
 }
 
-// Bond and option one row back. Gives the greatest value of both.
+// Bond and option one row back. Gives the greatest value of both. Compiled in place in the walk it would be slower.
+#[inline(never)]
 fn option_step(
     right: OptionStep,
     downs: &[u64],
@@ -158,38 +160,31 @@ fn option_step(
     )
 }
 
-// The bond from row n back to row `last`, two rows a turn, so that no row is copied on the way. 12 where a value is above 8 × one.
-pub(crate) fn roll_bond(
+// The bond from row n back to row `last`, in one of two rows of memory; none where a value is above 8 × one.
+pub(crate) fn roll_bond<'a>(
     tree: TreeShape,
     last: usize,
     downs: &[u64],
     discounts: &[u64],
     flows: &[u64],
-    bond: &mut [u64; MOST_NODES],
-) -> u64
+    first: &'a mut [u64; MOST_NODES],
+    second: &'a mut [u64; MOST_NODES],
+) -> Option<&'a mut [u64; MOST_NODES]>
     requires { Ready tree.steps tree.reversion downs.now discounts.now flows.now × (last ≤ tree.steps) }
-    ensures { BondRolled tree.steps tree.reversion discounts.now flows.now last result bond.new }
+    ensures { MatchOption result (BondRolled tree.steps tree.reversion discounts.now flows.now last 12 [])
+        (λ bond. BondRolled tree.steps tree.reversion discounts.now flows.now last 0 bond.now) }
 {
-    rows::fill_row(flow_of(flows, tree.steps), bond);
-    let mut other = rows::empty_row();
-    let mut row = tree.steps;
-    while last < row {
-        row -= 1;
+    let mut later = first;
+    let mut bond = second;
+    later.fill(flow_of(flows, tree.steps));
+    for row in (last..tree.steps).rev() {
         let flow = flow_of(flows, row);
-        if limits::VALUE_LIMIT < bond_step(tree, row, flow, downs, discounts, bond, &mut other) {
-            return 12;
+        if limits::VALUE_LIMIT < bond_step(tree, row, flow, downs, discounts, later, bond) {
+            return None;
         }
-        if row == last {
-            *bond = other;
-            return 0;
-        }
-        row -= 1;
-        let before = flow_of(flows, row);
-        if limits::VALUE_LIMIT < bond_step(tree, row, before, downs, discounts, &other, bond) {
-            return 12;
-        }
+        mem::swap(&mut later, &mut bond);
     }
-    0
+    Some(later)
 }
 
 fn at_root(bond: &[u64; MOST_NODES], option: &[u64; MOST_NODES]) -> Rolled
@@ -224,11 +219,11 @@ fn exercise_step(
     ensures { Holds option.new (node_count reversion terms.last)
         (λ k. exercise (side terms.call) terms.strike (values bond.now k - flow_at flows.now terms.last)) }
 {
-    let count = lattice::node_count(reversion, terms.last).value as usize;
+    let count = lattice::node_count(reversion, terms.last).unwrap() as usize;
     rows::exercise_row(terms, flow_of(flows, terms.last), count, bond, option);
 }
 
-// The option from its last row back to row 0, and the bond with it, two rows a turn. 12 where a value on the way is above 8 × one.
+// The option from its last row back to row 0, and the bond with it. 12 where a value on the way is above 8 × one.
 fn roll_option(
     tree: TreeShape,
     terms: Terms,
@@ -243,45 +238,24 @@ fn roll_option(
     ensures { BothRolled tree.steps tree.reversion discounts.now flows.now (side terms.call) terms.strike
         (marked terms.last marks.now) result }
 {
-    let mut option = rows::empty_row();
-    exercise_step(tree.reversion, terms, flows, bond, &mut option);
-    let mut bonds = rows::empty_row();
-    let mut options = rows::empty_row();
-    let mut row = terms.last;
-    while 0 < row {
-        row -= 1;
+    let mut first = rows::empty_row();
+    let mut second = rows::empty_row();
+    let mut third = rows::empty_row();
+    let mut bonds = bond;
+    let mut options = &mut first;
+    let mut bond = &mut second;
+    let mut option = &mut third;
+    exercise_step(tree.reversion, terms, flows, bonds, options);
+    for row in (0..terms.last).rev() {
         let right = option_step_at(tree, flows, terms, marks, row);
-        let first = option_step(
-            right,
-            downs,
-            discounts,
-            bond,
-            &option,
-            &mut bonds,
-            &mut options,
-        );
-        if limits::VALUE_LIMIT < first {
+        let greatest = option_step(right, downs, discounts, bonds, options, bond, option);
+        if limits::VALUE_LIMIT < greatest {
             return over();
         }
-        if row == 0 {
-            return at_root(&bonds, &options);
-        }
-        row -= 1;
-        let before = option_step_at(tree, flows, terms, marks, row);
-        let second = option_step(
-            before,
-            downs,
-            discounts,
-            &bonds,
-            &options,
-            bond,
-            &mut option,
-        );
-        if limits::VALUE_LIMIT < second {
-            return over();
-        }
+        mem::swap(&mut bonds, &mut bond);
+        mem::swap(&mut options, &mut option);
     }
-    at_root(bond, &option)
+    at_root(bonds, options)
 }
 
 // The bond back to the option's last row, then both together: one pass over the tree.
@@ -297,11 +271,20 @@ pub(crate) fn roll_both(
     ensures { BothRolled tree.steps tree.reversion discounts.now flows.now (side terms.call) terms.strike
         (marked terms.last marks.now) result }
 {
-    let mut bond = rows::empty_row();
-    if roll_bond(tree, terms.last, downs, discounts, flows, &mut bond) != 0 {
-        return over();
+    let mut first = rows::empty_row();
+    let mut second = rows::empty_row();
+    match roll_bond(
+        tree,
+        terms.last,
+        downs,
+        discounts,
+        flows,
+        &mut first,
+        &mut second,
+    ) {
+        Some(bond) => roll_option(tree, terms, marks, downs, discounts, flows, bond),
+        None => over(),
     }
-    roll_option(tree, terms, marks, downs, discounts, flows, &mut bond)
 }
 
 // As `bond_step`, and keeps the row without its flow.
@@ -335,7 +318,7 @@ fn keep_step(
     greatest
 }
 
-// The bond from row n back to row 0, two rows a turn, each row before n kept without its flow. 12 where a value is above 8 × one.
+// The bond from row n back to row 0, each row before n kept without its flow. 12 where a value is above 8 × one.
 pub(crate) fn keep_bond(
     tree: TreeShape,
     downs: &[u64],
@@ -346,26 +329,18 @@ pub(crate) fn keep_bond(
     requires { Ready tree.steps tree.reversion downs.now discounts.now flows.now × (most_discounts ≤ length kept.old) }
     ensures { BondKept tree.steps tree.reversion discounts.now flows.now result kept.new }
 {
-    let mut bond = rows::empty_row();
-    rows::fill_row(flow_of(flows, tree.steps), &mut bond);
-    let mut other = rows::empty_row();
-    let mut row = tree.steps;
-    while 0 < row {
-        row -= 1;
+    let mut first = rows::empty_row();
+    let mut second = rows::empty_row();
+    let mut later = &mut first;
+    let mut bond = &mut second;
+    later.fill(flow_of(flows, tree.steps));
+    for row in (0..tree.steps).rev() {
         let flow = flow_of(flows, row);
-        let first = keep_step(tree, row, flow, downs, discounts, &bond, &mut other, kept);
-        if limits::VALUE_LIMIT < first {
+        let greatest = keep_step(tree, row, flow, downs, discounts, later, bond, kept);
+        if limits::VALUE_LIMIT < greatest {
             return 12;
         }
-        if row == 0 {
-            return 0;
-        }
-        row -= 1;
-        let before = flow_of(flows, row);
-        let second = keep_step(tree, row, before, downs, discounts, &other, &mut bond, kept);
-        if limits::VALUE_LIMIT < second {
-            return 12;
-        }
+        mem::swap(&mut later, &mut bond);
     }
     0
 }
@@ -421,7 +396,7 @@ fn first_value(option: &[u64; MOST_NODES]) -> Answer
     }
 }
 
-// One option from its last row back to row 0, beside the kept rows of the bond, two rows a turn. 12 where a value on the way is above 8 × one.
+// One option from its last row back to row 0, beside the kept rows of the bond. 12 where a value on the way is above 8 × one.
 pub(crate) fn roll_strike(
     tree: TreeShape,
     terms: Terms,
@@ -439,24 +414,17 @@ pub(crate) fn roll_strike(
         (beside_bond tree.steps tree.reversion discounts.now flows.now result) }
 {
     let shape = lattice::row_shape(tree.reversion, tree.steps, terms.last);
-    let mut option = rows::empty_row();
-    rows::first_row(terms, part(kept, shape.start, shape.count), &mut option);
-    let mut other = rows::empty_row();
-    let mut row = terms.last;
-    while 0 < row {
-        row -= 1;
+    let mut first = rows::empty_row();
+    let mut second = rows::empty_row();
+    let mut later = &mut first;
+    let mut option = &mut second;
+    rows::first_row(terms, part(kept, shape.start, shape.count), later);
+    for row in (0..terms.last).rev() {
         let right = option_step_at(tree, flows, terms, marks, row);
-        if limits::VALUE_LIMIT < strike_step(right, downs, discounts, kept, &option, &mut other) {
+        if limits::VALUE_LIMIT < strike_step(right, downs, discounts, kept, later, option) {
             return past_limit();
         }
-        if row == 0 {
-            return first_value(&other);
-        }
-        row -= 1;
-        let before = option_step_at(tree, flows, terms, marks, row);
-        if limits::VALUE_LIMIT < strike_step(before, downs, discounts, kept, &other, &mut option) {
-            return past_limit();
-        }
+        mem::swap(&mut later, &mut option);
     }
-    first_value(&option)
+    first_value(later)
 }

@@ -10,43 +10,24 @@ use price_laws::Price;
 fn fill(numbers: &mut [u64], base: u64, factor: u64, range: u64)
     requires { (base ≤ 1000000000) × (factor ≤ 1000000000) × (range ≤ 1000000000) × (0 < range) }
 {
-    let mut place: usize = 0;
-    while place < numbers.len() {
+    for (place, number) in numbers.iter_mut().enumerate() {
         let k = (place % 3600) as u64;
-        numbers[place] = base + k * factor % range;
-        place += 1;
+        *number = base + k * factor % range;
     }
 }
 
-// The first numbers of a list, or all where it has fewer.
-fn first(numbers: &[u64], count: usize) -> &[u64] {
-    let start = 0;
-    if count <= numbers.len() {
-        &numbers[start..count]
-    } else {
-        numbers
-    }
+// The first of a list, or all where it has fewer.
+fn first<T>(list: &[T], count: usize) -> &[T] {
+    &list[..count.min(list.len())]
 }
 
 // Rows from a first one on, each so many after the one before.
 fn fill_dates(dates: &mut [u8], base: u8, step: u8)
     requires { (base ≤ 1) × (step ≤ 3) }
 {
-    let mut place: usize = 0;
-    while place < dates.len() {
+    for (place, date) in dates.iter_mut().enumerate() {
         let k = (place % 60) as u8;
-        dates[place] = base + k * step;
-        place += 1;
-    }
-}
-
-// The first rows of a list of dates, or all where it has fewer.
-fn first_dates(dates: &[u8], count: usize) -> &[u8] {
-    let start = 0;
-    if count <= dates.len() {
-        &dates[start..count]
-    } else {
-        dates
+        *date = base + k * step;
     }
 }
 
@@ -121,12 +102,10 @@ fn places(
     values: &[u64; price_laws::MOST_STRIKES],
     bounds: &[u64; price_laws::MOST_STRIKES],
 ) {
-    let mut k: usize = 0;
-    while k < price_laws::MOST_STRIKES {
+    for k in 0..price_laws::MOST_STRIKES {
         number(numbers[k]);
         number(values[k]);
         number(bounds[k]);
-        k += 1;
     }
 }
 
@@ -189,9 +168,9 @@ fn dates_of_side(
     fill_dates(&mut every, 0, 1);
     let mut thirds = [0u8; 20];
     fill_dates(&mut thirds, 1, 3);
-    let today = first_dates(&every, 1);
-    let half = first_dates(&every, steps / 2);
-    let third = first_dates(&thirds, steps / 3);
+    let today = first(&every, 1);
+    let half = first(&every, steps / 2);
+    let third = first(&thirds, steps / 3);
     let last = one_date(&every, latest);
     dated(steps, reversion, discounts, flows, side, today, 900_000_000);
     dated(steps, reversion, discounts, flows, side, half, 500_000_000);
@@ -361,7 +340,7 @@ fn strips(steps: usize, reversion: u64, discounts: &[u64], all_flows: &[u64], si
     strikes[5] = 4_000_000_001;
     let mut every = [0u8; limits::MOST_STEPS];
     fill_dates(&mut every, 0, 1);
-    let dates = first_dates(&every, steps / 2 + 1);
+    let dates = first(&every, steps / 2 + 1);
     let tree = Sided {
         steps,
         reversion,

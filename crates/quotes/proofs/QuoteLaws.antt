@@ -13,9 +13,13 @@ use lib.Ieee.{Float}
 use Rattle.arithmetic.proofs.Numbers.{by-test}
 use Rattle.arithmetic.specs.declared.Answer.{Answer}
 use Rattle.arithmetic.specs.Answers.{refused, answered}
-use Rattle.figure.specs.declared.Figure.{Figure}
-use Rattle.figure.specs.Figure.{beyond, billionths_of, figure_of}
+use Rattle.std.proofs.Common.{Err}
+use Rattle.arithmetic.specs.Refusals.{number_of}
+use Rattle.arithmetic.specs.declared.Refusal.{Refusal}
+use Rattle.arithmetic.proofs.RefusalLaws.{refusal-some}
+use Rattle.figure.specs.Figure.{Figure, beyond, billionths_of, figure_given, figure_of}
 use Rattle.figure.proofs.FigureLaws.{number-accepted, number-refused, value-accepted}
+use Rattle.figure.proofs.FigureLaws.{figure-refused as figure-beyond}
 use Rattle.quotes.specs.declared.Point.{Point}
 use Rattle.quotes.specs.declared.Quote.{Quote}
 use Rattle.quotes.specs.declared.Quote.TheVariants.{DiscountFactor, YearlyRate, YearlyYield}
@@ -90,6 +94,14 @@ module _ (x : Float) (discount : ℤ → ℕ) (r : Figure) (e : r ≡ figure_of 
   figure-accepted n =
       ap (λ (b : Bool). cond b (refused 7) (ranged_answer (discount (billionths_of x)))) (number-accepted x r e n)
       ∙ ap (λ (z : ℤ). ranged_answer (discount z)) (sym (value-accepted x r e n))
+
+-- a figure that is refused gives its own refusal
+pub figure-kept :
+    (x : Float) (discount : ℤ → ℕ) (r : Refusal) → figure_given (Err r) ≡ figure_of x → refused (number_of r) ≡ figure_answer x discount
+figure-kept x discount r e =
+    let b = number-refused x (figure_given (Err r)) e (refusal-some r) in
+    let n : number_of r ≡ 7 = ap (λ (f : Figure). f.number) (e ∙ figure-beyond x b) in
+    rw n (sym (figure-refused x discount (figure_given (Err r)) e (refusal-some r)))
 
 -- a discount factor below 0 has the discount 0
 pub factor-negative : (r : ℤ) → lt_z r (pos 0) ≡ true → factor_discount r ≡ 0

@@ -10,7 +10,11 @@ use lib.IntN.{ℤ, pos, negsuc, neg_ℤ, nat_abs}
 use lib.Signed.{lt_z}
 use lib.Ieee.{Float}
 use Rattle.arithmetic.specs.Within.{Within}
+use Rattle.std.proofs.Common.{Err}
+use Rattle.arithmetic.specs.Refusals.{number_of, answer_of}
 use Rattle.arithmetic.specs.declared.Answer.{Answer}
+use Rattle.arithmetic.specs.declared.Refusal.{Refusal}
+use Rattle.arithmetic.proofs.RefusalLaws.{refusal-some}
 use Rattle.arithmetic.specs.Answers.{refused, answered}
 use Rattle.arithmetic.specs.Rounding.{round_down, round_up, round_down_signed}
 use Rattle.arithmetic.proofs.Numbers.{by_order}
@@ -21,7 +25,7 @@ use Rattle.continuous.proofs.Answers.{amount-refused, amount-accepted}
 use Rattle.figure.specs.Figure.{beyond, billionths_of}
 use Rattle.quotes.specs.declared.Quote.TheVariants.{YearlyYield}
 use Rattle.quotes.specs.Quotes.{in_range, yield_amount, yield_discount, ranged_answer, figure_answer, quote_answer}
-use Rattle.quotes.proofs.QuoteLaws.{range-bounds}
+use Rattle.quotes.proofs.QuoteLaws.{range-bounds, ranged-none}
 
 -- down of a negative number is away from zero
 down-negated : (a d : ℕ) → 0 < d → round_down_signed (neg_ℤ (pos a)) d ≡ neg_ℤ (pos (round_up a d))
@@ -94,3 +98,12 @@ yield-within f t x = by-figure (beyond x)
         Within 100 power_scale (cond b (refused 7) (ranged_answer (continuous_answer y).value)).value (exact_power y)
     by-figure true e = let none : ⊥ = omega arith in absurd none
     by-figure false e = ranged-within y e
+
+-- an amount that is refused gives its own refusal
+pub amount-kept :
+    (y : ℤ) (r : Refusal) → answer_of (Err r) ≡ continuous_answer y → refused (number_of r) ≡ ranged_answer (continuous_answer y).value
+amount-kept y r e =
+    by_order (nat_abs y) amount_limit
+    (λ l. absurd (refusal-some r (ap (λ (a : Answer). a.number) (e ∙ amount-accepted y l))))
+    (λ l. e ∙ amount-refused y l
+    ∙ sym (ap (λ (a : Answer). ranged_answer a.value) (amount-refused y l) ∙ ranged-none 0 refl))

@@ -3,11 +3,11 @@
 
 ghost use Rattle.std.specs.Prelude.{◌≡◌, ◌≤◌, nat_abs};
 ghost use Rattle.limits.specs.Limits.{most_steps};
-ghost use Rattle.arithmetic.specs.Answers.{refused};
+ghost use Rattle.arithmetic.specs.Refusals.{answer_of};
 ghost use Rattle.continuous.specs.Continuous.{continuous_answer};
 ghost use Rattle.quotes.specs.Quotes.{factor_discount, rate_discount, yield_discount, ranged_answer, figure_answer, quote_answer, kind_answer, lone_answer};
 
-use arithmetic::{Answer, ONE};
+use arithmetic::{ONE, Refusal};
 
 // Quotes exist for rows 1 to 60.
 const LAST_ROW: u64 = limits::MOST_STEPS as u64;
@@ -28,82 +28,62 @@ pub enum Quote {
     YearlyYield(f64),
 }
 
-fn refusal(cause: u64) -> Answer
-    ensures { result ≡ refused cause }
-{
-    Answer {
-        number: cause,
-        value: 0,
-    }
-}
-
 // A discount within its range.
-fn ranged(discount: u64) -> Answer
-    ensures { result ≡ ranged_answer discount }
+fn ranged(discount: u64) -> Result<u64, Refusal>
+    ensures { answer_of result ≡ ranged_answer discount }
 {
     if discount < 100_000_000 {
-        return refusal(7);
+        return Err(Refusal::Quote);
     }
     if discount > 2_000_000_000 {
-        return refusal(7);
+        return Err(Refusal::Quote);
     }
-    Answer {
-        number: 0,
-        value: discount,
-    }
+    Ok(discount)
 }
 
 // The discount of a discount factor.
-fn of_factor(figure: f64) -> Answer
-    ensures { result ≡ figure_answer figure factor_discount }
+fn of_factor(figure: f64) -> Result<u64, Refusal>
+    ensures { answer_of result ≡ figure_answer figure factor_discount }
 {
-    let factor = figure::billionths(figure);
-    if factor.number != 0 {
-        return refusal(7);
-    }
-    let value = factor.value;
+    let value = figure::billionths(figure)?;
     if value < 0 {
-        return refusal(7);
+        return Err(Refusal::Quote);
     }
     ranged(value as u64)
 }
 
 // The discount of a yearly rate in billionths.
-fn of_billionths(frequency: u64, row: u64, rate: i64) -> Answer
+fn of_billionths(frequency: u64, row: u64, rate: i64) -> Result<u64, Refusal>
     requires { (frequency ≤ 12) × (row ≤ most_steps) × (nat_abs rate ≤ 10000000000) }
-    ensures { result ≡ ranged_answer (rate_discount frequency row rate) }
+    ensures { answer_of result ≡ ranged_answer (rate_discount frequency row rate) }
 {
     let divisor = (frequency * ONE) as i64 + (row as i64) * rate;
     if divisor <= 0 {
-        return refusal(7);
+        return Err(Refusal::Quote);
     }
     ranged(ONE * ONE * frequency / (divisor as u64))
 }
 
 // The discount of a yearly rate.
-fn of_rate(frequency: u64, row: u64, figure: f64) -> Answer
+fn of_rate(frequency: u64, row: u64, figure: f64) -> Result<u64, Refusal>
     requires { (frequency ≤ 12) × (row ≤ most_steps) }
-    ensures { result ≡ figure_answer figure (rate_discount frequency row) }
+    ensures { answer_of result ≡ figure_answer figure (rate_discount frequency row) }
 {
-    let rate = figure::billionths(figure);
-    if rate.number != 0 {
-        return refusal(7);
-    }
-    of_billionths(frequency, row, rate.value)
+    let rate = figure::billionths(figure)?;
+    of_billionths(frequency, row, rate)
 }
 
 // The discount of an amount by continuous compounding.
-fn of_amount(amount: i64) -> Answer
-    ensures { result ≡ ranged_answer (continuous_answer amount).value }
+fn of_amount(amount: i64) -> Result<u64, Refusal>
+    ensures { answer_of result ≡ ranged_answer (continuous_answer amount).value }
 {
-    let discount = continuous::discount(amount);
-    ranged(discount.value)
+    ranged(continuous::discount(amount)?)
 }
 
 // The discount of a yearly yield in billionths. Its amount is rounded down, so away from zero below it.
-fn of_yearly(frequency: u64, row: u64, rate: i64) -> Answer
+fn of_yearly(frequency: u64, row: u64, rate: i64) -> Result<u64, Refusal>
     requires { (1 ≤ frequency) × (frequency ≤ 12) × (row ≤ most_steps) × (nat_abs rate ≤ 10000000000) }
-    ensures { result ≡ ranged_answer (yield_discount frequency row rate) }
+    ensures { answer_of result ≡ ranged_answer (yield_discount frequency row rate) }
 {
     let size = row * arithmetic::magnitude(rate);
     if rate < 0 {
@@ -113,21 +93,18 @@ fn of_yearly(frequency: u64, row: u64, rate: i64) -> Answer
 }
 
 // The discount of a yearly yield.
-fn of_yield(frequency: u64, row: u64, figure: f64) -> Answer
+fn of_yield(frequency: u64, row: u64, figure: f64) -> Result<u64, Refusal>
     requires { (1 ≤ frequency) × (frequency ≤ 12) × (row ≤ most_steps) }
-    ensures { result ≡ figure_answer figure (yield_discount frequency row) }
+    ensures { answer_of result ≡ figure_answer figure (yield_discount frequency row) }
 {
-    let rate = figure::billionths(figure);
-    if rate.number != 0 {
-        return refusal(7);
-    }
-    of_yearly(frequency, row, rate.value)
+    let rate = figure::billionths(figure)?;
+    of_yearly(frequency, row, rate)
 }
 
 // The discount of a quote for a row, case by case.
-fn of_quote(frequency: u64, row: u64, quote: Quote) -> Answer
+fn of_quote(frequency: u64, row: u64, quote: Quote) -> Result<u64, Refusal>
     requires { (1 ≤ frequency) × (frequency ≤ 12) × (row ≤ most_steps) }
-    ensures { result ≡ quote_answer frequency row quote }
+    ensures { answer_of result ≡ quote_answer frequency row quote }
 {
     match quote {
         Quote::DiscountFactor(x) => of_factor(x),
@@ -137,9 +114,9 @@ fn of_quote(frequency: u64, row: u64, quote: Quote) -> Answer
 }
 
 // The discount of a point whose kind is told by its number.
-fn of_point(frequency: u64, kind: u8, point: Point) -> Answer
+fn of_point(frequency: u64, kind: u8, point: Point) -> Result<u64, Refusal>
     requires { (1 ≤ frequency) × (frequency ≤ 12) × (point.row ≤ most_steps) }
-    ensures { result ≡ kind_answer frequency kind point }
+    ensures { answer_of result ≡ kind_answer frequency kind point }
 {
     let row = point.row;
     let figure = point.figure;
@@ -152,22 +129,22 @@ fn of_point(frequency: u64, kind: u8, point: Point) -> Answer
     if kind == 9 {
         return of_quote(frequency, row, Quote::YearlyYield(figure));
     }
-    refusal(7)
+    Err(Refusal::Quote)
 }
 
-// The discount of a lone point. Refusals, the lowest first: 2 the steps a year, 6 the row, 7 the kind, the figure or the discount.
-pub fn lone_point(frequency: u64, kind: u8, point: Point) -> Answer
-    ensures { result ≡ lone_answer frequency kind point }
+// The discount of a lone point. Refusals, the lowest first: the steps a year, the row, then the kind, the figure or the discount.
+pub fn lone_point(frequency: u64, kind: u8, point: Point) -> Result<u64, Refusal>
+    ensures { answer_of result ≡ lone_answer frequency kind point }
 {
     if !arithmetic::is_frequency(frequency) {
-        return refusal(2);
+        return Err(Refusal::Frequency);
     }
     let row = point.row;
     if row < 1 {
-        return refusal(6);
+        return Err(Refusal::LengthOrRow);
     }
     if row > LAST_ROW {
-        return refusal(6);
+        return Err(Refusal::LengthOrRow);
     }
     of_point(frequency, kind, point)
 }

@@ -4,6 +4,7 @@
 mod lines;
 
 ghost use Rattle.std.specs.Prelude.{◌≡◌, ◌≤◌, length};
+ghost use Rattle.arithmetic.specs.Refusals.{cause_of};
 ghost use Rattle.limits.specs.Limits.{most_steps};
 ghost use Rattle.job_laws.specs.JobPrices.{has_option, job_bond, job_option};
 ghost use Rattle.sheet_room.specs.Room.{sheet_room};
@@ -13,6 +14,7 @@ ghost use Rattle.sheet_laws.specs.inside.Stored.{Fitted};
 ghost use Rattle.sheet_laws.specs.WholeJob.{room_cause, job_number, job_text};
 ghost use Rattle.record_sheet.specs.Answers.{refused_sheet, answer_of};
 
+use arithmetic::Refusal;
 use job_laws::JobPrices;
 use job_record::Job;
 use sheet_room::SHEET_ROOM;
@@ -31,13 +33,13 @@ fn refused(number: u64) -> Written
     Written { number, size: 0 }
 }
 
-fn room_cause(room: usize) -> u64
-    ensures { result ≡ room_cause room }
+fn room_cause(room: usize) -> Result<(), Refusal>
+    ensures { cause_of result ≡ room_cause room }
 {
     if room < SHEET_ROOM {
-        return 6;
+        return Err(Refusal::LengthOrRow);
     }
-    0
+    Ok(())
 }
 
 // Room for the quotes of the longest tree.
@@ -62,16 +64,16 @@ fn draw<'a>(
     let steps = job.steps;
     let reversion = job_fit::meant_reversion(job.version, job.reversion);
     let mut quotes = quote_room();
-    job_fit::quotes_of_record(job, &mut quotes);
-    let discount_count = lattice::discounts_needed(steps, reversion);
-    let price_count = lattice::state_prices_needed(steps, reversion);
+    job_fit::quotes_of_record(job, &mut quotes).unwrap();
+    let discount_count = lattice::discounts_needed(steps, reversion).unwrap();
+    let price_count = lattice::state_prices_needed(steps, reversion).unwrap();
     lines::put_sheet(
         out,
         steps,
         reversion,
         &quotes[..steps],
-        &discounts[..discount_count.value as usize],
-        &state_prices[..price_count.value as usize],
+        &discounts[..discount_count as usize],
+        &state_prices[..price_count as usize],
         prices,
     )
 }
@@ -87,7 +89,7 @@ pub fn sheet_of_record(job: Job, out: &mut [u8]) -> Written
     let mut state_prices = limits::state_price_room();
     let prices = job_prices::prices_in_place(job, &mut discounts, &mut state_prices);
     let room = out.len();
-    let cause = arithmetic::lowest_cause(prices.number, room_cause(room));
+    let cause = arithmetic::lowest_cause(prices.number, arithmetic::cause(room_cause(room)));
     if cause != 0 {
         return refused(cause);
     }

@@ -1,5 +1,5 @@
 // The lines of a priced tree, put into a lent buffer from its end.
-ghost use Rattle.std.specs.Prelude.{◌≡◌, suc, ◌+◌, ◌*◌, ◌≤◌, ◌<◌, length};
+ghost use Rattle.std.specs.Prelude.{◌≡◌, suc, ◌+◌, ◌*◌, ◌^◌, ◌≤◌, ◌<◌, sum, length};
 ghost use Rattle.sheet_room.specs.Room.{sheet_room};
 ghost use Rattle.text_laws.specs.Lines.{longest_line};
 ghost use Rattle.arithmetic.specs.Row.{sum_of};
@@ -30,16 +30,10 @@ struct Row {
 }
 
 fn row_total(row: &[u64]) -> u64
-    requires { sum_of row.now ≤ sum_limit }
-    ensures { result ≡ sum_of row.now }
+    requires { sum row.now < 2 ^ 64 }
+    ensures { result ≡ sum row.now }
 {
-    let mut sum = 0u64;
-    let mut index = 0usize;
-    while index < row.len() {
-        sum += row[index];
-        index += 1;
-    }
-    sum
+    row.iter().sum()
 }
 
 // The node lines of all rows, whose nodes stand before `next`. The last row's come first, so that the lines stand in order; the place goes down
@@ -57,18 +51,11 @@ fn put_node_rows(
 {
     let mut start = end;
     let mut place = next;
-    let mut left = steps;
-    while left > 0 {
-        left -= 1;
-        let count = lattice::node_count(reversion, left);
+    for row in (0..steps).rev() {
+        let count = lattice::node_count(reversion, row).unwrap() as usize;
         let lines = node_lines::node_lines(
-            out,
-            start,
-            left as u64,
-            discounts,
-            place,
-            count.value as usize,
-        );
+            out, start, row as u64, discounts, place, count,
+        ).unwrap();
         start = lines.start;
         place = lines.next;
     }
@@ -138,8 +125,7 @@ fn put_row<'a>(
         state_prices,
     );
     let sum = row_total(part);
-    let line = text::row_line(out, end, number as u64, quotes[before], sum, row.bound);
-    line.start
+    text::row_line(out, end, number as u64, quotes[before], sum, row.bound).unwrap()
 }
 
 // The lines of rows 1 to n, the last first.
@@ -161,13 +147,10 @@ fn put_rows<'a>(
         state_prices.now) result out.new }
 {
     let mut start = end;
-    let mut left = tree.steps;
-    while left > 0 {
-        let bound = bounds[left];
-        left -= 1;
+    for index in (0..tree.steps).rev() {
         let row = Row {
-            before: left,
-            bound,
+            before: index,
+            bound: bounds[index + 1],
         };
         start = put_row(out, start, tree, row, quotes, discounts, state_prices);
     }
@@ -180,8 +163,7 @@ fn put_prices(out: &mut [u8], end: usize, bond: Price, present: bool, option: Pr
     ensures { Put out.old end (price_lines bond present option) result out.new }
 {
     let below = put_option(out, end, present, option);
-    let line = text::bond_line(out, below, bond.value, bond.bound);
-    line.start
+    text::bond_line(out, below, bond.value, bond.bound).unwrap()
 }
 
 fn put_option(out: &mut [u8], end: usize, present: bool, option: Price) -> usize
@@ -189,8 +171,7 @@ fn put_option(out: &mut [u8], end: usize, present: bool, option: Price) -> usize
     ensures { Put out.old end (option_lines present option) result out.new }
 {
     if present {
-        let line = text::option_line(out, end, option.value, option.bound);
-        return line.start;
+        return text::option_line(out, end, option.value, option.bound).unwrap();
     }
     end
 }
@@ -215,8 +196,7 @@ pub(crate) fn put_sheet<'a>(
     let bond = prices.bond;
     let option = prices.option;
     let prices_start = put_prices(out, end, bond, prices.has_option, option);
-    let known = state_price_bound::state_price_error_bounds(steps, reversion, discounts);
-    let bounds = known.bounds;
+    let bounds = state_price_bound::state_price_error_bounds(steps, reversion, discounts).unwrap();
     let rows_start = put_rows(
         out,
         prices_start,

@@ -20,25 +20,26 @@ fn write_from(room: &[u8], start: usize) {
 }
 
 fn write_whole(room: &mut [u8], word: &[u8], number: u64) {
-    let line = text::whole_line(room, room.len(), word, number);
-    write_from(room, line.start);
+    if let Ok(start) = text::whole_line(room, room.len(), word, number) {
+        write_from(room, start);
+    }
 }
 
 fn write_pair(room: &mut [u8], word: &[u8], first: u64, second: u64) {
-    let line = text::pair_line(room, room.len(), word, first, second);
-    write_from(room, line.start);
+    if let Ok(start) = text::pair_line(room, room.len(), word, first, second) {
+        write_from(room, start);
+    }
 }
 
 fn write_amount(room: &mut [u8], word: &[u8], value: u64) {
-    let line = text::amount_line(room, room.len(), word, value);
-    write_from(room, line.start);
+    if let Ok(start) = text::amount_line(room, room.len(), word, value) {
+        write_from(room, start);
+    }
 }
 
 fn write_refusals(room: &mut [u8], counts: [u64; 13]) {
-    let mut k = 0usize;
-    while k < 13 {
-        write_pair(room, b"refused ", k as u64 + 1, counts[k]);
-        k += 1;
+    for (k, count) in counts.iter().enumerate() {
+        write_pair(room, b"refused ", k as u64 + 1, *count);
     }
 }
 
@@ -141,16 +142,13 @@ fn next_file(totals: Totals, input: &[u8], at: usize) -> Step {
 fn read_all(input: &[u8]) -> Totals {
     let mut totals = no_totals();
     let mut at = 0usize;
-    let mut left = input.len();
-    while 0 < left {
+    for _ in 0..input.len() {
         let step = next_file(totals, input, at);
-        let next = step.totals;
+        totals = step.totals;
         if step.at == 0 {
-            return next;
+            return totals;
         }
-        totals = next;
         at = step.at;
-        left -= 1;
     }
     totals
 }

@@ -3,6 +3,7 @@
 
 ghost use Rattle.std.specs.Prelude.{◌≡◌, ◌≤◌, ◌<◌, pos};
 ghost use Rattle.arithmetic.specs.Rounding.{one};
+ghost use Rattle.arithmetic.specs.Refusals.{answer_of};
 ghost use Rattle.limits.specs.Limits.{most_reversion};
 ghost use Rattle.continuous.specs.Continuous.{amount_limit, continuous_discount};
 ghost use Rattle.reversion.specs.Reversion.{
@@ -14,7 +15,7 @@ ghost use Rattle.reversion.specs.Reversion.{
   ratio_answer,
 };
 
-use arithmetic::{Answer, ONE};
+use arithmetic::{ONE, Refusal};
 
 // Whether there is such a version.
 pub fn is_version(version: u64) -> bool
@@ -31,7 +32,7 @@ fn discount(amount: u64) -> u64
     requires { amount ≤ amount_limit }
     ensures { (result ≡ continuous_discount (pos amount)) × (result ≤ one) }
 {
-    continuous::discount_of_quotient(amount / 4, false).value
+    continuous::discount_of_quotient(amount / 4, false).unwrap()
 }
 
 fn exact_reversion(reversion: u64) -> u64
@@ -63,58 +64,34 @@ pub fn working_or_same(version: u64, reversion: u64) -> u64
     exact_reversion(reversion)
 }
 
-// The same; refuses with 4 or 7.
-pub fn working_reversion(version: u64, reversion: u64) -> Answer
-    ensures { result ≡ working_answer version reversion }
+// The same, refused beyond the limit or for another version.
+pub fn working_reversion(version: u64, reversion: u64) -> Result<u64, Refusal>
+    ensures { answer_of result ≡ working_answer version reversion }
 {
     if limits::MOST_REVERSION < reversion {
-        return Answer {
-            number: 4,
-            value: 0,
-        };
+        return Err(Refusal::Reversion);
     }
     if !is_version(version) {
-        return Answer {
-            number: 7,
-            value: 0,
-        };
+        return Err(Refusal::Quote);
     }
-    Answer {
-        number: 0,
-        value: working_or_same(version, reversion),
-    }
+    Ok(working_or_same(version, reversion))
 }
 
-// The variance of a step over that of version 1, in billionths; refuses with 4 or 7.
-pub fn variance_ratio(version: u64, reversion: u64) -> Answer
-    ensures { result ≡ ratio_answer version reversion }
+// The variance of a step over that of version 1, in billionths; refused beyond the limit or for another version.
+pub fn variance_ratio(version: u64, reversion: u64) -> Result<u64, Refusal>
+    ensures { answer_of result ≡ ratio_answer version reversion }
 {
     if limits::MOST_REVERSION < reversion {
-        return Answer {
-            number: 4,
-            value: 0,
-        };
+        return Err(Refusal::Reversion);
     }
     if !is_version(version) {
-        return Answer {
-            number: 7,
-            value: 0,
-        };
+        return Err(Refusal::Quote);
     }
     if version == 1 {
-        return Answer {
-            number: 0,
-            value: ONE,
-        };
+        return Ok(ONE);
     }
     if reversion == 0 {
-        return Answer {
-            number: 0,
-            value: ONE,
-        };
+        return Ok(ONE);
     }
-    Answer {
-        number: 0,
-        value: exact_ratio(reversion),
-    }
+    Ok(exact_ratio(reversion))
 }

@@ -83,7 +83,8 @@ module _ (downs : List ℕ) (next k : ℕ) where
       ))
       (λ over. absurd (refused-total (branch-over downs next k h over) t)))
 
-  pub branch_leads : branch_total (row_branch downs next k) ≡ probability_total → k < length downs → (row_branch downs next k).low ≡ lowest (length downs) next k
+  pub branch_leads : branch_total (row_branch downs next k) ≡ probability_total → k < length downs →
+      (row_branch downs next k).low ≡ lowest (length downs) next k
   branch_leads t h = ap (λ (x : RowBranch). x.low) (sym (branch-found downs next k h _ refl (branch-filled t).0))
 
 -- where branches lead, by the node counts of the two rows

@@ -32,15 +32,14 @@ pub struct RowRange {
 fn holds_tree(steps: usize, reversion: u64, discounts: &[u64], state_prices: &[u64]) -> bool
     ensures { result ≡ holds_tree steps reversion discounts.now state_prices.now }
 {
-    let discounts_needed = lattice::discounts_needed(steps, reversion);
-    if discounts_needed.number != 0 {
+    let Ok(discounts_needed) = lattice::discounts_needed(steps, reversion) else {
+        return false;
+    };
+    if (discounts.len() as u64) < discounts_needed {
         return false;
     }
-    if (discounts.len() as u64) < discounts_needed.value {
-        return false;
-    }
-    let state_prices_needed = lattice::state_prices_needed(steps, reversion);
-    state_prices_needed.value <= state_prices.len() as u64
+    let state_prices_needed = lattice::state_prices_needed(steps, reversion).unwrap();
+    state_prices_needed <= state_prices.len() as u64
 }
 
 // Discounts have rows 0 to n - 1, state prices rows 0 to n.
@@ -80,11 +79,11 @@ pub fn row_range(
     if !stores_row(kind, steps, row) {
         return RowRange { start: 0, count: 0 };
     }
-    let first = lattice::row_start(reversion, row);
-    let nodes = lattice::node_count(reversion, row);
+    let first = lattice::row_start(reversion, row).unwrap();
+    let nodes = lattice::node_count(reversion, row).unwrap();
     RowRange {
-        start: first.value as usize,
-        count: nodes.value as usize,
+        start: first as usize,
+        count: nodes as usize,
     }
 }
 

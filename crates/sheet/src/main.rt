@@ -5,9 +5,7 @@ fn main() {
     let mut input = io::large_buffer();
     let count = io::read_full(0, &mut input);
     let mut room = sheet_room::sheet_room();
-    let sheet = job_sheet::printed(&input[..count], &mut room);
-    if sheet.number == 0 {
-        let start = sheet.start;
+    if let Ok(start) = job_sheet::printed(&input[..count], &mut room) {
         io::write_all(1, &room[start..]);
     }
 }

@@ -23,13 +23,17 @@ use Rattle.row_view.specs.declared.RowKind.{RowKind}
 use Rattle.row_view.specs.RowView.{is_tree, holds_tree, stores_row, memory_of, is_shown, view_start, view_count, PartOf}
 use Rattle.arithmetic.proofs.Implied.{implied}
 use Rattle.row_view.proofs.ViewLaws.{is-stored}
-use Rattle.text_laws.specs.declared.Placed.{Placed}
+use Rattle.text_laws.specs.Put.{Placed}
 use Rattle.text_laws.specs.inside.Put.{Put}
-use Rattle.node_lines.specs.declared.Drawn.{Drawn}
+use Rattle.std.specs.Prelude.{Result}
+use Rattle.std.specs.Result.{IsOk}
+use Rattle.arithmetic.specs.declared.Refusal.{Refusal}
+use Rattle.node_lines.specs.declared.Places.{Places}
+use Rattle.node_lines.specs.Reading.{Drawn, drawn_by}
 use Rattle.node_lines.specs.Rows.{node_text, row_text, accepted_nodes}
 use Rattle.node_lines.specs.Reading.{nodes_before, read_number}
 use Rattle.node_lines.proofs.RowLaws.{lines-room, text-room, part-accepted, row_is, row-number-none}
-use Rattle.node_lines.proofs.ReadingLaws.{Drew, read-number-none, drawn-put, drawn-next}
+use Rattle.node_lines.proofs.ReadingLaws.{drawn-ok, Drew, read-number-none, drawn-put, drawn-next}
 use Rattle.text_laws.specs.Lines.{row_line, price_line, line_number, bond_word, option_word, longest_line}
 use Rattle.text_laws.proofs.LineLaws.{row_room, price-room, line-stands, line_before}
 use Rattle.text_laws.proofs.PutLaws.{put-none, put-before, Answered}
@@ -98,6 +102,18 @@ module _ (discounts prices : Bor (List ℕ)) (kind : RowKind) (n b i : ℕ) (par
 
 -- ---- the lines of a row, put by a call
 
+pub row-unrefused : (out : List ℕ) (end b i : ℕ) (memory : List ℕ) (next : ℕ) → i < 60 → accepted_nodes memory ≡ true →
+    next ≡ row_start b i + node_count b i → next ≤ length memory → longest_line * node_count b i ≤ end → end ≤ length out →
+    read_number (length out) end i memory next (node_count b i) ≡ 0
+unfolding nodes_before
+row-unrefused out end b i memory next few accepted ends within h p =
+    let count = node_count b i in
+    let first : next - count ≡ row_start b i = omega arith in
+    let size = part_length memory (row_start b i) count (omega arith) in
+    let row = row-number-none (length out) end i (take count (drop (row_start b i) memory)) (rw size (row_is b i few)) (omega (arith, size)) p
+    (part-accepted memory (row_start b i) count accepted (omega arith)) in
+    read-number-none (length out) end i memory next count (omega arith) within (rw first row)
+
 pub row-stands : (out : List ℕ) (end b i : ℕ) (memory : List ℕ) (next : ℕ) {answer : Drawn} {after : List ℕ} → i < 60 → accepted_nodes memory ≡ true →
     next ≡ row_start b i + node_count b i → next ≤ length memory → longest_line * node_count b i ≤ end → end ≤ length out →
     length (nodes_of_row b memory i) ≤ longest_line * node_count b i →
@@ -108,10 +124,7 @@ unfolding stored_row nodes_before
 row-stands out end b i memory next few accepted ends within h p l d =
     let count = node_count b i in
     let first : next - count ≡ row_start b i = omega arith in
-    let size = part_length memory (row_start b i) count (omega arith) in
-    let row = row-number-none (length out) end i (take count (drop (row_start b i) memory)) (rw size (row_is b i few)) (omega (arith, size)) p
-    (part-accepted memory (row_start b i) count accepted (omega arith)) in
-    let z = read-number-none (length out) end i memory next count (omega arith) within (rw first row) in
+    let z = row-unrefused out end b i memory next few accepted ends within h p in
     let drawn = rw first at d in
     (drawn-put _ out end _ _ drawn z (omega arith) p, drawn-next _ out end _ _ drawn z)
 
@@ -162,6 +175,16 @@ module _ (n b : ℕ) (discounts : List ℕ) (h : Lent n b discounts) (left place
 
   before-end : place ≤ length discounts
   before-end = omega (arith, ends, discounts-end n b discounts h (left - 1) (omega arith))
+
+  -- the row's lines are not refused
+  pub before-ok : (out : List ℕ) (end : ℕ) (answer : Result Places Refusal) {after : List ℕ} → longest_line * row_start b left ≤ end → end ≤ length out →
+      Drew (read_number (length out) end (left - 1) discounts place count.value) out end
+      (row_text (left - 1) (nodes_before discounts place count.value)) (place - count.value) (drawn_by answer) after → IsOk answer
+  before-ok out end answer room inside d =
+      drawn-ok _ out end _ _ answer d
+      (subst (λ (k : ℕ). read_number (length out) end (left - 1) discounts place k ≡ 0) (sym count-is)
+      (row-unrefused out end b (left - 1) discounts place (omega (arith, h.limits.steps-within-limit)) h.accepted (ep ∙ ends) before-end
+      (omega (arith, ends)) inside))
 
   -- the row's lines, put by a call that reads its nodes before the place, which goes down to the row's start
   pub before-put : (small : (j : ℕ) → get_or discounts j 0 < 2 ^ 64) (out : List ℕ) (end : ℕ) (answer : Drawn) (after : List ℕ) →

@@ -17,8 +17,7 @@ use Rattle.job_laws.specs.RecordFit.{job_reversion, job_quotes, job_discounts, j
 use Rattle.job_laws.specs.declared.JobPrices.{JobPrices}
 use Rattle.job_laws.specs.JobPrices.{has_option, job_bond, job_option, record_number, record_prices}
 use Rattle.job_laws.proofs.PriceLaws.{prices-given, prices-number}
-use Rattle.text_laws.specs.declared.Placed.{Placed}
-use Rattle.text_laws.specs.Put.{put_before, place_of, with_text}
+use Rattle.text_laws.specs.Put.{Placed, put_before, place_of, with_text}
 use Rattle.text_laws.specs.inside.Put.{Put}
 use Rattle.text_laws.specs.Lines.{refused_line, line_number}
 use Rattle.text_laws.proofs.PutLaws.{Answered, put-answered, put_whole}

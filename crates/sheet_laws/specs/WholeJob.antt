@@ -8,8 +8,7 @@ use Rattle.job_record.specs.Reader.{reading_of}
 use Rattle.job_laws.specs.RecordFit.{job_reversion, job_quotes, job_discounts, job_state_prices}
 use Rattle.job_laws.specs.JobPrices.{has_option, job_bond, job_option, record_number}
 use Rattle.text_laws.specs.Lines.{refused_line, line_number}
-use Rattle.text_laws.specs.declared.Placed.{Placed}
-use Rattle.text_laws.specs.Put.{place_of, with_text}
+use Rattle.text_laws.specs.Put.{Placed, place_of, with_text}
 use Rattle.sheet_room.specs.Room.{sheet_room}
 use Rattle.sheet_laws.specs.TreeSheet.{tree_sheet}
 

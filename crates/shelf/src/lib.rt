@@ -6,6 +6,7 @@ mod parts;
 mod slots;
 
 ghost use Rattle.std.specs.Prelude.{◌≡◌};
+ghost use Rattle.arithmetic.specs.Refusals.{number_of};
 ghost use Rattle.shelf_laws.specs.Shelf.{
   empty_slots,
   located_tree,
@@ -21,11 +22,13 @@ ghost use Rattle.shelf_laws.specs.Shelf.{
   release_memory,
 };
 
+use arithmetic::Refusal;
 use shelf_laws::{Located, Part, Shelf, Shelved};
 
-fn refused(number: u64, shelf: Shelf) -> Shelved
-    ensures { (result.number ≡ number) × (result.shelf.slots ≡ shelf.slots) }
+fn refused(refusal: Refusal, shelf: Shelf) -> Shelved
+    ensures { (result.number ≡ number_of refusal) × (result.shelf.slots ≡ shelf.slots) }
 {
+    let number = refusal.number();
     Shelved { number, shelf }
 }
 
@@ -97,13 +100,12 @@ pub fn ask(
     ensures slots { result.shelf.slots ≡ ask_slots shelf.slots name steps reversion }
     ensures memory { memory.new ≡ ask_memory shelf.slots memory.old name steps reversion }
 {
-    let number = slots::ask_number(shelf, name, steps, reversion);
-    if number != 0 {
-        return refused(number, shelf);
+    if let Err(refusal) = slots::ask_cause(shelf, name, steps, reversion) {
+        return refused(refusal, shelf);
     }
     let at = slots::nodes_before(shelf, name - 1);
-    let needed = lattice::discounts_needed(steps, reversion);
-    parts::open_part(memory, at, needed.value as usize);
+    let needed = lattice::discounts_needed(steps, reversion).unwrap();
+    parts::open_part(memory, at, needed as usize);
     let slot = slots::awaiting_slot(steps, reversion);
     slots::replaced(shelf, name - 1, slot)
 }
@@ -129,11 +131,11 @@ pub fn commit(
 {
     let tree = tree_of(shelf, name);
     if tree.status != 1 {
-        return refused(15, shelf);
+        return refused(Refusal::Name, shelf);
     }
-    let number = parts::fit_part(memory, tree, frequency, volatility, rows, kinds, figures);
-    if number != 0 {
-        return refused(number, shelf);
+    let fitted = parts::fit_part(memory, tree, frequency, volatility, rows, kinds, figures);
+    if let Err(refusal) = fitted {
+        return refused(refusal, shelf);
     }
     let slot = parts::fitted_slot(memory, tree);
     slots::replaced(shelf, name - 1, slot)
@@ -147,7 +149,7 @@ pub fn release(shelf: Shelf, memory: &mut [u64; shelf_laws::ROOM], name: usize) 
 {
     let tree = tree_of(shelf, name);
     if tree.status == 0 {
-        return refused(15, shelf);
+        return refused(Refusal::Name, shelf);
     }
     parts::close_part(memory, tree.start, tree.count);
     let slot = slots::empty_slot();

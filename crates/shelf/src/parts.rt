@@ -1,23 +1,16 @@
 // Parts of the memory: one is opened or closed by moving what stands behind it, and a tree is fitted in one.
 ghost use Rattle.std.specs.Prelude.{◌≡◌, ◌++◌, ◌+◌, ◌-◌, ◌≤◌, length, take, drop};
+ghost use Rattle.arithmetic.specs.Refusals.{cause_of};
 ghost use Rattle.arithmetic.specs.Row.{place};
 ghost use Rattle.limits.specs.Limits.{most_state_prices};
 ghost use Rattle.spacing.specs.Spacing.{spacing};
 ghost use Rattle.fitted_laws.specs.Entry.{fit_number, fit_memory, fit_discounts};
-ghost use Rattle.shelf_laws.specs.Parts.{part, zeros, opened, closed};
+ghost use Rattle.shelf_laws.specs.Parts.{part, opened, closed};
 ghost use Rattle.shelf_laws.specs.Shelf.{fitted_slot};
 
+use arithmetic::Refusal;
+use price_bound::TreeErrorBounds;
 use shelf_laws::{Located, Slot};
-
-fn clear(part: &mut [u64])
-    ensures { part.new ≡ zeros (length part.old) }
-{
-    let mut k: usize = 0;
-    while k < part.len() {
-        part[k] = 0;
-        k += 1;
-    }
-}
 
 // Moves what stands from `at` on up by `count`; the last `count` numbers fall out.
 fn move_up(memory: &mut [u64], at: usize, count: usize)
@@ -25,11 +18,8 @@ fn move_up(memory: &mut [u64], at: usize, count: usize)
     ensures { memory.new ≡ take (at + count) memory.old
         ++ drop at (take (length memory.old - count) memory.old) }
 {
-    let mut k: usize = memory.len() - count;
-    while at < k {
-        k -= 1;
-        memory[k + count] = memory[k];
-    }
+    let end = memory.len() - count;
+    memory.copy_within(at..end, at + count);
 }
 
 // Moves what stands from `at + count` on down by `count`; the last `count` numbers stay.
@@ -38,12 +28,7 @@ fn move_down(memory: &mut [u64], at: usize, count: usize)
     ensures { memory.new ≡ (take at memory.old ++ drop (at + count) memory.old)
         ++ drop (length memory.old - count) memory.old }
 {
-    let end = memory.len() - count;
-    let mut k: usize = at;
-    while k < end {
-        memory[k] = memory[k + count];
-        k += 1;
-    }
+    memory.copy_within(at + count.., at);
 }
 
 // Puts `count` zeros in at `at`.
@@ -53,7 +38,7 @@ pub(crate) fn open_part(memory: &mut [u64], at: usize, count: usize)
 {
     move_up(memory, at, count);
     let end = at + count;
-    clear(&mut memory[at..end]);
+    memory[at..end].fill(0);
 }
 
 // Takes the `count` numbers at `at` out.
@@ -63,8 +48,7 @@ pub(crate) fn close_part(memory: &mut [u64], at: usize, count: usize)
 {
     move_down(memory, at, count);
     let from = memory.len() - count;
-    let end = memory.len();
-    clear(&mut memory[from..end]);
+    memory[from..].fill(0);
 }
 
 // The fit of a tree, on the part of the memory where its discounts stand.
@@ -76,12 +60,12 @@ pub(crate) fn fit_part(
     rows: &[u64],
     kinds: &[u8],
     figures: &[f64],
-) -> u64
+) -> Result<(), Refusal>
     requires { tree.start + tree.count ≤ length memory.old }
-    ensures number { result ≡ fit_number frequency tree.steps tree.reversion volatility
+    ensures number { cause_of result ≡ fit_number frequency tree.steps tree.reversion volatility
         rows.now kinds.now figures.now tree.count most_state_prices }
     ensures memory { memory.new ≡ place memory.old tree.start
-        (fit_memory result (fit_discounts frequency tree.steps tree.reversion (spacing frequency volatility) kinds.now figures.now)
+        (fit_memory (cause_of result) (fit_discounts frequency tree.steps tree.reversion (spacing frequency volatility) kinds.now figures.now)
         (part memory.old tree.start tree.count)) }
 {
     let mut state_prices = limits::state_price_room();
@@ -107,7 +91,11 @@ pub(crate) fn fitted_slot(memory: &[u64], tree: Located) -> Slot
 {
     let start = tree.start;
     let end = start + tree.count;
-    let found = price_bound::tree_bounds(tree.steps, tree.reversion, &memory[start..end]);
+    let found = TreeErrorBounds::from(price_bound::tree_bounds(
+        tree.steps,
+        tree.reversion,
+        &memory[start..end],
+    ));
     let rows = found.greatest;
     Slot {
         status: 2,

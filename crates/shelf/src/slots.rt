@@ -1,5 +1,6 @@
 // The slots of a shelf: the nodes that they hold, and the tree of a name.
 ghost use Rattle.std.specs.Prelude.{◌≡◌, ◌≤◌, ◌<◌, set, replicate};
+ghost use Rattle.arithmetic.specs.Refusals.{cause_of};
 ghost use Rattle.limits.specs.Limits.{most_steps};
 ghost use Rattle.shelf_laws.specs.Shelf.{
   empty_slot,
@@ -11,6 +12,7 @@ ghost use Rattle.shelf_laws.specs.Shelf.{
   ask_number,
 };
 
+use arithmetic::Refusal;
 use shelf_laws::{Shelf, Shelved, Slot};
 
 // More nodes than the memory has.
@@ -79,11 +81,10 @@ pub(crate) fn nodes_of(slot: Slot) -> usize
     if 2 < slot.status {
         return TOO_MANY;
     }
-    let needed = lattice::discounts_needed(slot.steps, slot.reversion);
-    if needed.number != 0 {
+    let Ok(needed) = lattice::discounts_needed(slot.steps, slot.reversion) else {
         return TOO_MANY;
-    }
-    needed.value as usize
+    };
+    needed as usize
 }
 
 // The nodes of the first slots, which is where the next one's stand.
@@ -92,11 +93,8 @@ pub(crate) fn nodes_before(shelf: Shelf, count: usize) -> usize
     ensures { result ≡ nodes_before shelf.slots count }
 {
     let mut nodes: usize = 0;
-    let mut at: usize = 0;
-    while at < count {
-        let slot = shelf.slots[at];
-        nodes += nodes_of(slot);
-        at += 1;
+    for slot in &shelf.slots[..count] {
+        nodes += nodes_of(*slot);
     }
     nodes
 }
@@ -118,20 +116,21 @@ pub(crate) fn status_of(shelf: Shelf, name: usize) -> u64
     slot.status
 }
 
-// The number of an asking: 15, 3, 4 or 14, or 0 where it is accepted.
-pub(crate) fn ask_number(shelf: Shelf, name: usize, steps: usize, reversion: u64) -> u64
-    ensures { result ≡ ask_number shelf.slots name steps reversion }
+// The refusal of an asking: the name, the steps, the reversion or the nodes.
+pub(crate) fn ask_cause(
+    shelf: Shelf,
+    name: usize,
+    steps: usize,
+    reversion: u64,
+) -> Result<(), Refusal>
+    ensures { cause_of result ≡ ask_number shelf.slots name steps reversion }
 {
     if status_of(shelf, name) != 0 {
-        return 15;
+        return Err(Refusal::Name);
     }
-    let needed = lattice::discounts_needed(steps, reversion);
-    if needed.number != 0 {
-        return needed.number;
+    let needed = lattice::discounts_needed(steps, reversion)?;
+    if TOO_MANY <= needed as usize + nodes_before(shelf, 8) {
+        return Err(Refusal::Nodes);
     }
-    let asked = needed.value as usize;
-    if TOO_MANY <= asked + nodes_before(shelf, 8) {
-        return 14;
-    }
-    0
+    Ok(())
 }

@@ -75,7 +75,8 @@ module _ {bond option : ℕ → ℕ → List ℕ → Price} {slots : List Slot} 
       (price-there option slots m name e h values.option (ap (λ (v : BondAndOptionValues). v.option) ev) o eo)
 
 -- a strip: the price of place k of a tree
-module _ (price : ℕ → ℕ → List ℕ → ℕ → Price) (slots : List Slot) (m : List ℕ) (name count : ℕ) (l : Located) (e : l ≡ located_tree slots name) where
+module _ (price : ℕ → ℕ → List ℕ → ℕ → Price) (slots : List Slot) (m : List ℕ) (name count : ℕ) (l : Located)
+    (e : l ≡ located_tree slots name) where
   abbrev on-shelf : ℕ → Price
   on-shelf k = shelf_price (λ (n b : ℕ) (d : List ℕ). price n b d k) slots m name
 

@@ -1,15 +1,16 @@
 // Prices on the trees of a shelf. Shelf and memory are read and left as they are.
 #![tactic(auto)]
 
-ghost use Rattle.std.specs.Prelude.{◌≡◌};
+ghost use Rattle.std.specs.Prelude.{◌≡◌, ◌≢◌, ◌+◌, ◌-◌, take, drop, MatchOption};
 ghost use Rattle.price_laws.specs.Prices.{refused_price, with_bound};
 ghost use Rattle.price_laws.specs.Strips.{refused_strip};
+ghost use Rattle.shelf_laws.specs.Shelf.{located_tree};
 ghost use Rattle.shelf_prices.specs.ShelfPrices.{shelf_bond, shelf_option, shelf_dated, shelf_bond_and_option, shelf_bond_and_dated};
 ghost use Rattle.shelf_prices.specs.ShelfPrices.{shelf_dated_strip, shelf_kind_strip};
 
 use arithmetic::Answer;
 use price_laws::{BondAndOption, BoundedTree, Price, Strip};
-use shelf_laws::Shelf;
+use shelf_laws::{Located, Shelf};
 
 // A name without a tree.
 const NO_TREE: u64 = 15;
@@ -52,6 +53,24 @@ fn carried(value: Answer, bound: u64) -> Price
     }
 }
 
+// A name's tree and its discounts; none for a name without a tree.
+fn tree_and_discounts(
+    shelf: Shelf,
+    memory: &[u64; shelf_laws::ROOM],
+    name: usize,
+) -> Option<(Located, &[u64])>
+    ensures { MatchOption result ((located_tree shelf.slots name).status ≡ 0) (λ found. (found.0 ≡ located_tree shelf.slots name)
+        × (found.0.status ≢ 0) × (found.1.now ≡ take (found.0.start + found.0.count - found.0.start) (drop found.0.start memory.now))) }
+{
+    let tree = shelf::tree_of(shelf, name);
+    if tree.status == 0 {
+        return None;
+    }
+    let start = tree.start;
+    let end = start + tree.count;
+    Some((tree, &memory[start..end]))
+}
+
 // The price at row 0 of the bond with these flows on a name's tree. 15 a name without a tree; then what `pricing::bond_price` answers for the
 // tree's discounts, 9 for a tree that awaits its commit. The error bound is the one that the tree carries.
 pub fn bond_price(
@@ -62,14 +81,10 @@ pub fn bond_price(
 ) -> Price
     ensures { result ≡ shelf_bond shelf.slots memory.now name flows.now }
 {
-    let tree = shelf::tree_of(shelf, name);
-    if tree.status == 0 {
+    let Some((tree, discounts)) = tree_and_discounts(shelf, memory, name) else {
         return no_price();
-    }
-    let numbers = &memory[..];
-    let start = tree.start;
-    let end = start + tree.count;
-    let value = pricing::bond_value(tree.steps, tree.reversion, &numbers[start..end], flows);
+    };
+    let value = pricing::bond_value(tree.steps, tree.reversion, discounts, flows);
     carried(value, tree.bound)
 }
 
@@ -85,8 +100,7 @@ pub fn option_price(
 ) -> Price
     ensures { result ≡ shelf_option shelf.slots memory.now name flows.now kind expiry strike }
 {
-    let both = bond_and_option(shelf, memory, name, flows, kind, expiry, strike);
-    both.option
+    bond_and_option(shelf, memory, name, flows, kind, expiry, strike).option
 }
 
 // The same for an option on listed rows, as `pricing::dated_option_price` answers.
@@ -101,8 +115,7 @@ pub fn dated_option_price(
 ) -> Price
     ensures { result ≡ shelf_dated shelf.slots memory.now name flows.now side dates.now strike }
 {
-    let both = bond_and_dated_option(shelf, memory, name, flows, side, dates, strike);
-    both.option
+    bond_and_dated_option(shelf, memory, name, flows, side, dates, strike).option
 }
 
 // Bond and option in one roll, each as its own entry answers.
@@ -117,17 +130,13 @@ pub fn bond_and_option(
 ) -> BondAndOption
     ensures { result ≡ shelf_bond_and_option shelf.slots memory.now name flows.now kind expiry strike }
 {
-    let tree = shelf::tree_of(shelf, name);
-    if tree.status == 0 {
+    let Some((tree, discounts)) = tree_and_discounts(shelf, memory, name) else {
         return no_prices();
-    }
-    let numbers = &memory[..];
-    let start = tree.start;
-    let end = start + tree.count;
+    };
     let values = pricing::bond_and_option_values(
         tree.steps,
         tree.reversion,
-        &numbers[start..end],
+        discounts,
         flows,
         kind,
         expiry,
@@ -151,17 +160,13 @@ pub fn bond_and_dated_option(
 ) -> BondAndOption
     ensures { result ≡ shelf_bond_and_dated shelf.slots memory.now name flows.now side dates.now strike }
 {
-    let tree = shelf::tree_of(shelf, name);
-    if tree.status == 0 {
+    let Some((tree, discounts)) = tree_and_discounts(shelf, memory, name) else {
         return no_prices();
-    }
-    let numbers = &memory[..];
-    let start = tree.start;
-    let end = start + tree.count;
+    };
     let values = pricing::bond_and_dated_option_values(
         tree.steps,
         tree.reversion,
-        &numbers[start..end],
+        discounts,
         flows,
         side,
         dates,
@@ -198,19 +203,15 @@ pub fn option_strip(
 ) -> Strip
     ensures { result ≡ shelf_dated_strip shelf.slots memory.now name flows.now side dates.now strikes.now }
 {
-    let tree = shelf::tree_of(shelf, name);
-    if tree.status == 0 {
+    let Some((tree, discounts)) = tree_and_discounts(shelf, memory, name) else {
         return no_strip();
-    }
-    let numbers = &memory[..];
-    let start = tree.start;
-    let end = start + tree.count;
+    };
     let known = BoundedTree {
         steps: tree.steps,
         reversion: tree.reversion,
         bound: tree.bound,
     };
-    pricing::bounded_strip(known, &numbers[start..end], flows, side, dates, strikes)
+    pricing::bounded_strip(known, discounts, flows, side, dates, strikes)
 }
 
 // The same for one of the four kinds and an expiry, each answer as `option_price` gives it.
@@ -225,17 +226,13 @@ pub fn option_strip_of_kind(
 ) -> Strip
     ensures { result ≡ shelf_kind_strip shelf.slots memory.now name flows.now kind expiry strikes.now }
 {
-    let tree = shelf::tree_of(shelf, name);
-    if tree.status == 0 {
+    let Some((tree, discounts)) = tree_and_discounts(shelf, memory, name) else {
         return no_strip();
-    }
-    let numbers = &memory[..];
-    let start = tree.start;
-    let end = start + tree.count;
+    };
     let known = BoundedTree {
         steps: tree.steps,
         reversion: tree.reversion,
         bound: tree.bound,
     };
-    pricing::bounded_strip_of_kind(known, &numbers[start..end], flows, kind, expiry, strikes)
+    pricing::bounded_strip_of_kind(known, discounts, flows, kind, expiry, strikes)
 }

@@ -10,7 +10,11 @@ use borrow.Author.Tests.{lt-ltb, le-ltb, ltb-false, not-false}
 use lib.Dec.{ltb}
 use Rattle.arithmetic.specs.Rounding.{one, round_down}
 use Rattle.arithmetic.specs.Answers.{refused, answered}
+use Rattle.std.proofs.Common.{Err}
+use Rattle.arithmetic.specs.Refusals.{number_of, answer_of}
 use Rattle.arithmetic.specs.declared.Answer.{Answer}
+use Rattle.arithmetic.specs.declared.Refusal.{Refusal}
+use Rattle.arithmetic.proofs.RefusalLaws.{refusal-some}
 use Rattle.arithmetic.specs.Frequency.{is_frequency}
 use Rattle.arithmetic.proofs.Numbers.{by_order, by-test}
 use Rattle.arithmetic.proofs.FrequencyLaws.{listed_small}
@@ -19,6 +23,7 @@ use Rattle.limits.specs.Limits.{most_reversion}
 use Rattle.reversion.specs.Reversion.{is_version, is_exact, variance_ratio, version_ratio, ratio_answer}
 use Rattle.reversion.proofs.ReversionLaws.{ratio-most, first-same, none-same}
 use Rattle.reversion.proofs.EntryLaws.{number-zero, number-above}
+use Rattle.reversion.proofs.EntryLaws.{answer-unknown as ratio-unknown}
 use Rattle.spacing.specs.Spacing.{greatest_root, spacing, spacing_answer, version_variance, version_spacing, version_spacing_answer}
 use Rattle.spacing.proofs.SpacingLaws.{root-passes, root-greatest, root-next-fails, root-unique, root-of-quotient, cube-positive, spacing-most}
 
@@ -144,7 +149,8 @@ pub record AcceptedVersion (version f s b : ℕ) (answer : Answer) : Type 0 wher
   pub reversion : b ≤ most_reversion
   pub value : answer.value ≡ version_spacing version f s b
 
-pub version-zero : (version f s b : ℕ) → (version_spacing_answer version f s b).number ≡ 0 → AcceptedVersion version f s b (version_spacing_answer version f s b)
+pub version-zero : (version f s b : ℕ) → (version_spacing_answer version f s b).number ≡ 0 →
+    AcceptedVersion version f s b (version_spacing_answer version f s b)
 version-zero version f s b e = by-listed (is_frequency f) refl
   where
     impossible : {X : Type 0} (cause : ℕ) → 0 < cause → version_spacing_answer version f s b ≡ refused cause → X
@@ -211,3 +217,11 @@ module _ {version f s b : ℕ} {ratio : Answer} (_ : Implied (version ▸ f ▸ 
       where
         quotient : 3 * (s * s) * ratio.value / 1000 / (f * f * f) ≡ version_variance version s b / (f * f * f)
         quotient = rw value-is (ap (λ (x : ℕ). x / (f * f * f)) (variance-computed version s b))
+
+-- a ratio that is refused gives its own refusal
+pub ratio-kept :
+    {version f s b : ℕ} (_ : Implied (version ▸ f ▸ s ▸ lastly b)) (r : Refusal) → is_frequency f ≡ true → b ≤ most_reversion → s ≤ 50000 →
+    answer_of (Err r) ≡ ratio_answer version b → refused (number_of r) ≡ version_spacing_answer version f s b
+ratio-kept {version} {f} {s} {b} i r u hb hs e =
+    let known = number-above version b _ (answer_of (Err r)) e hb (refusal-some r) in
+    e ∙ ratio-unknown version b _ hb known ∙ sym (answer-unknown version f s b u hb hs known)

@@ -28,8 +28,14 @@ use Rattle.lattice.proofs.Sizes.{start_first, start-next, start-grow, start-with
 use Rattle.lent_tree.specs.LentTree.{stored, discounts_cause, Accepted}
 use Rattle.lent_tree.proofs.LentLaws.{accepted}
 use Rattle.fit_laws.specs.StatePrices.{state_price_error_bound}
-use Rattle.state_price_bound.specs.declared.RowBounds.{RowBounds}
-use Rattle.state_price_bound.specs.ErrorBound.{row_cause, bound_cause, state_price_error_bound_answer, state_price_error_bounds, state_price_error_bounds_answer}
+use Rattle.state_price_bound.specs.ErrorBound.{RowBounds}
+use Rattle.state_price_bound.specs.ErrorBound.{
+  row_cause,
+  bound_cause,
+  state_price_error_bound_answer,
+  state_price_error_bounds,
+  state_price_error_bounds_answer,
+}
 use Rattle.state_price_bound.specs.inside.Reached.{Bounded, Reached}
 
 -- ---- refusals
@@ -80,7 +86,8 @@ module _ (n b : ℕ) (discounts : List ℕ) (i : ℕ) where
     bound-refused nz = rw (← ex, ne_eqb x 0 nz)
 
     module _ (z : x ≡ 0) where
-      pub bound-answered : (y : ℕ) → y ≡ state_price_error_bound (rate_tree b) (stored b discounts) i → answered y ≡ state_price_error_bound_answer n b discounts i
+      pub bound-answered : (y : ℕ) → y ≡ state_price_error_bound (rate_tree b) (stored b discounts) i →
+          answered y ≡ state_price_error_bound_answer n b discounts i
       unfolding state_price_error_bound_answer
       bound-answered y f = let none = sym ex ∙ z in rw (none, f)
 
@@ -250,7 +257,8 @@ module _ (n b : ℕ) (discounts : List ℕ) (c : ℕ) (e : c ≡ discounts_cause
 -- so the bound that is answered is at most a million
 pub bound-most : (n b : ℕ) (discounts : List ℕ) (i : ℕ) → (state_price_error_bound_answer n b discounts i).value ≤ 1000000
 unfolding state_price_error_bound_answer
-bound-most n b discounts i = by_equal (bound_cause n b discounts i) 0 (λ z. rw z (within z)) (λ nz. rw (ne_eqb (bound_cause n b discounts i) 0 nz) (omega arith))
+bound-most n b discounts i =
+    by_equal (bound_cause n b discounts i) 0 (λ z. rw z (within z)) (λ nz. rw (ne_eqb (bound_cause n b discounts i) 0 nz) (omega arith))
   where
     within : bound_cause n b discounts i ≡ 0 → state_price_error_bound (rate_tree b) (stored b discounts) i ≤ 1000000
     within z = bound-within b discounts i (row-needs n b discounts i {x = bound_cause n b discounts i} refl z) i (le_refl i)

@@ -3,6 +3,7 @@
 
 ghost use Rattle.std.specs.Prelude.{◌≡◌, ◌+◌, ◌*◌, ◌≤◌, replicate};
 ghost use Rattle.arithmetic.specs.Rounding.{one, round_up};
+ghost use Rattle.arithmetic.specs.Refusals.{cause_of, answer_of};
 ghost use Rattle.limits.specs.Limits.{most_steps, most_discount, most_nodes};
 ghost use Rattle.lattice.specs.RateTree.{rate_tree};
 ghost use Rattle.lent_tree.specs.LentTree.{stored};
@@ -12,18 +13,12 @@ ghost use Rattle.state_price_bound.specs.ErrorBound.{
   state_price_error_bound_answer,
   state_price_error_bounds,
   state_price_error_bounds_answer,
+  bounds_of,
 };
 ghost use Rattle.state_price_bound.specs.inside.Reached.{Bounded, Reached};
 
-use arithmetic::{Answer, ONE};
+use arithmetic::{ONE, Refusal};
 use limits::MOST_ROWS;
-
-// The bounds of rows 0 to n, 0 for rows that the tree has not; a refusal's number with zeros.
-#[derive(Drop)]
-pub struct RowBounds {
-    pub number: u64,
-    pub bounds: [u64; MOST_ROWS],
-}
 
 // Where a row starts in the discounts, how many nodes it has, and its bound.
 #[derive(Clone, Copy)]
@@ -61,11 +56,11 @@ fn next_row(reversion: u64, discounts: &[u64], index: usize, row: RowReached) ->
     let nodes = row.nodes;
     let end = start + nodes as usize;
     let greatest = arithmetic::greatest_of(&discounts[start..end]);
-    let next = lattice::node_count(reversion, index + 1);
-    let bound = next_bound(greatest, row.bound, nodes, next.value);
+    let next = lattice::node_count(reversion, index + 1).unwrap();
+    let bound = next_bound(greatest, row.bound, nodes, next);
     RowReached {
         start: end,
-        nodes: next.value,
+        nodes: next,
         bound,
     }
 }
@@ -75,11 +70,8 @@ fn bound_of_row(reversion: u64, discounts: &[u64], row: usize) -> u64
     ensures { result ≡ state_price_error_bound (rate_tree reversion) (stored reversion discounts.now) row }
 {
     let mut reached = first_row();
-    let mut index: usize = 0;
-    while index < row {
-        let next = next_row(reversion, discounts, index, reached);
-        reached = next;
-        index += 1;
+    for index in 0..row {
+        reached = next_row(reversion, discounts, index, reached);
     }
     reached.bound
 }
@@ -97,21 +89,22 @@ fn bounds_of_rows(steps: usize, reversion: u64, discounts: &[u64]) -> [u64; MOST
 {
     let mut bounds = no_bounds();
     let mut reached = first_row();
-    let mut index: usize = 0;
-    while index < steps {
-        let next = next_row(reversion, discounts, index, reached);
-        reached = next;
-        index += 1;
-        bounds[index] = next.bound;
+    for index in 0..steps {
+        reached = next_row(reversion, discounts, index, reached);
+        bounds[index + 1] = reached.bound;
     }
     bounds
 }
 
-// 6 for a row that the tree has not, or 0.
-fn row_cause(steps: usize, row: usize) -> u64
-    ensures { result ≡ row_cause steps row }
+// Whether the tree has the row.
+fn row_cause(steps: usize, row: usize) -> Result<(), Refusal>
+    ensures { cause_of result ≡ row_cause steps row }
 {
-    if steps < row { 6 } else { 0 }
+    if steps < row {
+        Err(Refusal::LengthOrRow)
+    } else {
+        Ok(())
+    }
 }
 
 // The state-price error bound of a row of the tree whose discounts are lent.
@@ -120,35 +113,24 @@ pub fn state_price_error_bound(
     reversion: u64,
     discounts: &[u64],
     row: usize,
-) -> Answer
-    ensures { result ≡ state_price_error_bound_answer steps reversion discounts.now row }
+) -> Result<u64, Refusal>
+    ensures { answer_of result ≡ state_price_error_bound_answer steps reversion discounts.now row }
 {
-    let number = arithmetic::lowest_cause(
+    arithmetic::lowest_refusal(
         lent_tree::discounts_cause(steps, reversion, discounts),
         row_cause(steps, row),
-    );
-    if number != 0 {
-        return Answer { number, value: 0 };
-    }
-    Answer {
-        number: 0,
-        value: bound_of_row(reversion, discounts, row),
-    }
+    )?;
+    Ok(bound_of_row(reversion, discounts, row))
 }
 
-// The state-price error bounds of all rows, whose discounts are judged once; 3, 4, 6 or 9 where the tree is refused.
-pub fn state_price_error_bounds(steps: usize, reversion: u64, discounts: &[u64]) -> RowBounds
-    ensures { result ≡ state_price_error_bounds_answer steps reversion discounts.now }
+// The state-price error bounds of rows 0 to n, whose discounts are judged once; 0 for rows that the tree has not.
+pub fn state_price_error_bounds(
+    steps: usize,
+    reversion: u64,
+    discounts: &[u64],
+) -> Result<[u64; MOST_ROWS], Refusal>
+    ensures { bounds_of result ≡ state_price_error_bounds_answer steps reversion discounts.now }
 {
-    let number = lent_tree::discounts_cause(steps, reversion, discounts);
-    if number != 0 {
-        return RowBounds {
-            number,
-            bounds: no_bounds(),
-        };
-    }
-    RowBounds {
-        number: 0,
-        bounds: bounds_of_rows(steps, reversion, discounts),
-    }
+    lent_tree::discounts_cause(steps, reversion, discounts)?;
+    Ok(bounds_of_rows(steps, reversion, discounts))
 }

@@ -18,6 +18,10 @@ use Rattle.arithmetic.proofs.RoundingLaws.{nearest-rounds, nearest-le}
 use Rattle.arithmetic.proofs.Signed.{abs-negative, fits-by-size}
 use Rattle.limits.specs.Limits.{is_discount}
 use Rattle.limits.proofs.LimitLaws.{discount-least, discount-most}
+use Rattle.std.proofs.Common.{Result, Ok, Err, ℤ}
+use Rattle.arithmetic.specs.Refusals.{cause_of}
+use Rattle.arithmetic.specs.declared.Refusal.{Refusal}
+use Rattle.step_rate.specs.StepRate.{rate_of}
 use Rattle.step_rate.specs.declared.Rate.{Rate}
 use Rattle.step_rate.specs.StepRate.{step_rate, refused_rate, answered_rate, rate_answer}
 
@@ -140,3 +144,8 @@ module _ (v : ℕ) (r : Rate) (e : r ≡ rate_answer v) where
 -- the code's ratio fits an `i64`
 pub ratio-small : (r gap v : ℕ) → r ≡ nearest (gap * one) v → 0 < v → gap ≤ one → r ≤ one * one
 ratio-small r gap v e h l = omega (arith, e, nearest-le (gap * one) v h)
+
+-- the number of a rate that may be refused
+pub rate-cause : (r : Result ℤ Refusal) → cause_of r ≡ (rate_of r).number
+rate-cause (Ok value) = refl
+rate-cause (Err refusal) = refl

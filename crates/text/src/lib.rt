@@ -23,40 +23,36 @@ ghost use Rattle.text_laws.specs.Lines.{
 };
 ghost use Rattle.text_laws.specs.Decimal.{natural, decimal, sign_of, signed_decimal};
 ghost use Rattle.text_laws.specs.inside.Decimal.{fraction};
-ghost use Rattle.text_laws.specs.Put.{place_of, with_text};
+ghost use Rattle.text_laws.specs.Put.{place_of, placed_of, with_text};
+ghost use Rattle.arithmetic.specs.Refusals.{cause_of};
 ghost use Rattle.text_laws.specs.inside.Put.{Put};
 ghost use Rattle.text_laws.specs.WordLines.{whole_line, pair_line, amount_line, word_number, word_answer, with_word};
 
+use arithmetic::Refusal;
 use text_laws::LONGEST_LINE;
-pub use text_laws::Placed;
 
 // No word that a caller chooses is longer.
 const LONGEST_WORD: usize = 16;
 
-// 6 where a line has no room before a place, or 0.
-fn line_number(size: usize, end: usize) -> u64
-    ensures { result ≡ line_number size end }
+// Refused with 6 where a line has no room before a place.
+fn line_cause(size: usize, end: usize) -> Result<(), Refusal>
+    ensures { cause_of result ≡ line_number size end }
 {
     if end < LONGEST_LINE {
-        return 6;
+        return Err(Refusal::LengthOrRow);
     }
     if size < end {
-        return 6;
+        return Err(Refusal::LengthOrRow);
     }
-    0
+    Ok(())
 }
 
 fn put_word(out: &mut [u8], end: usize, word: &[u8]) -> usize
     requires { (length word.now ≤ end) × (end ≤ length out.old) }
     ensures { Put out.old end word.now result out.new }
 {
-    let mut start = end;
-    let mut left = word.len();
-    while left > 0 {
-        left -= 1;
-        start -= 1;
-        out[start] = word[left];
-    }
+    let start = end - word.len();
+    out[start..end].copy_from_slice(word);
     start
 }
 
@@ -69,17 +65,13 @@ fn put_fraction(out: &mut [u8], end: usize, number: u64, decimals: usize) -> usi
         return end;
     }
     let mut rest = number;
-    let mut start = end;
-    let mut left = decimals;
-    while left > 0 {
-        start -= 1;
-        out[start] = 48 + (rest % 10) as u8;
+    let point = end - decimals - 1;
+    for place in (point + 1..end).rev() {
+        out[place] = 48 + (rest % 10) as u8;
         rest /= 10;
-        left -= 1;
     }
-    start -= 1;
-    out[start] = b'.';
-    start
+    out[point] = b'.';
+    point
 }
 
 // The digits of a number, with no zeros in front.
@@ -170,146 +162,122 @@ fn put_node(out: &mut [u8], end: usize, row: u64, node: i64, discount: u64, rate
 }
 
 // `node ROW NODE DISCOUNT RATE`, with the step rate of the discount. Refused with 6 without room, then with 9 for a discount of 0 or above 1.1.
-pub fn node_line(out: &mut [u8], end: usize, row: u64, node: i64, discount: u64) -> Placed
-    ensures value { result ≡ place_of (node_number (length out.old) end discount) end (line_of_node row node discount) }
+pub fn node_line(
+    out: &mut [u8],
+    end: usize,
+    row: u64,
+    node: i64,
+    discount: u64,
+) -> Result<usize, Refusal>
+    ensures value { placed_of result ≡ place_of (node_number (length out.old) end discount) end (line_of_node row node discount) }
     ensures out_after { out.new ≡ with_text (node_number (length out.old) end discount) out.old end (line_of_node row node discount) }
 {
-    let rate = step_rate::of_discount(discount);
-    let cause = arithmetic::lowest_cause(line_number(out.len(), end), rate.number);
-    if cause != 0 {
-        return Placed {
-            number: cause,
-            start: 0,
-        };
-    }
-    let start = put_node(out, end, row, node, discount, rate.value);
-    Placed { number: 0, start }
+    line_cause(out.len(), end)?;
+    let rate = step_rate::of_discount(discount)?;
+    Ok(put_node(out, end, row, node, discount, rate))
 }
 
 // `row ROW QUOTE SUM ALLOWANCE`.
-pub fn row_line(out: &mut [u8], end: usize, row: u64, quote: u64, total: u64, bound: u64) -> Placed
-    ensures value { result ≡ line_answer out.old end (row_line row quote total bound) }
+pub fn row_line(
+    out: &mut [u8],
+    end: usize,
+    row: u64,
+    quote: u64,
+    total: u64,
+    bound: u64,
+) -> Result<usize, Refusal>
+    ensures value { placed_of result ≡ line_answer out.old end (row_line row quote total bound) }
     ensures out_after { out.new ≡ with_line out.old end (row_line row quote total bound) }
 {
-    let cause = line_number(out.len(), end);
-    if cause != 0 {
-        return Placed {
-            number: cause,
-            start: 0,
-        };
-    }
+    line_cause(out.len(), end)?;
     let total_start = put_bounded(out, end, total, bound);
     let quote_start = put_field(out, total_start, quote, 9, b' ');
-    let start = put_label(out, quote_start, b"row ", row, b' ');
-    Placed { number: 0, start }
+    Ok(put_label(out, quote_start, b"row ", row, b' '))
 }
 
 // A word, a price and its error bound.
-fn price_line(out: &mut [u8], end: usize, word: &[u8], price: u64, bound: u64) -> Placed
+fn price_line(
+    out: &mut [u8],
+    end: usize,
+    word: &[u8],
+    price: u64,
+    bound: u64,
+) -> Result<usize, Refusal>
     requires { length word.now ≤ 8 }
-    ensures value { result ≡ line_answer out.old end (price_line word.now price bound) }
+    ensures value { placed_of result ≡ line_answer out.old end (price_line word.now price bound) }
     ensures out_after { out.new ≡ with_line out.old end (price_line word.now price bound) }
 {
-    let cause = line_number(out.len(), end);
-    if cause != 0 {
-        return Placed {
-            number: cause,
-            start: 0,
-        };
-    }
+    line_cause(out.len(), end)?;
     let price_start = put_bounded(out, end, price, bound);
-    let start = put_word(out, price_start, word);
-    Placed { number: 0, start }
+    Ok(put_word(out, price_start, word))
 }
 
 // `bond PRICE ALLOWANCE`.
-pub fn bond_line(out: &mut [u8], end: usize, price: u64, bound: u64) -> Placed
-    ensures value { result ≡ line_answer out.old end (bond_line price bound) }
+pub fn bond_line(out: &mut [u8], end: usize, price: u64, bound: u64) -> Result<usize, Refusal>
+    ensures value { placed_of result ≡ line_answer out.old end (bond_line price bound) }
     ensures out_after { out.new ≡ with_line out.old end (bond_line price bound) }
 {
     price_line(out, end, b"bond ", price, bound)
 }
 
 // `option PRICE ALLOWANCE`.
-pub fn option_line(out: &mut [u8], end: usize, price: u64, bound: u64) -> Placed
-    ensures value { result ≡ line_answer out.old end (option_line price bound) }
+pub fn option_line(out: &mut [u8], end: usize, price: u64, bound: u64) -> Result<usize, Refusal>
+    ensures value { placed_of result ≡ line_answer out.old end (option_line price bound) }
     ensures out_after { out.new ≡ with_line out.old end (option_line price bound) }
 {
     price_line(out, end, b"option ", price, bound)
 }
 
 // `refused NUMBER`.
-pub fn refused_line(out: &mut [u8], end: usize, number: u64) -> Placed
-    ensures value { result ≡ line_answer out.old end (refused_line number) }
+pub fn refused_line(out: &mut [u8], end: usize, number: u64) -> Result<usize, Refusal>
+    ensures value { placed_of result ≡ line_answer out.old end (refused_line number) }
     ensures out_after { out.new ≡ with_line out.old end (refused_line number) }
 {
-    let cause = line_number(out.len(), end);
-    if cause != 0 {
-        return Placed {
-            number: cause,
-            start: 0,
-        };
-    }
-    let start = put_label(out, end, b"refused ", number, b'\n');
-    Placed { number: 0, start }
+    line_cause(out.len(), end)?;
+    Ok(put_label(out, end, b"refused ", number, b'\n'))
 }
 
-// 6 where a word is too long or its line has no room before a place, or 0.
-fn word_number(word: usize, size: usize, end: usize) -> u64
-    ensures { result ≡ word_number word size end }
+// Refused with 6 where a word is too long or its line has no room before a place.
+fn word_cause(word: usize, size: usize, end: usize) -> Result<(), Refusal>
+    ensures { cause_of result ≡ word_number word size end }
 {
     if LONGEST_WORD < word {
-        return 6;
+        return Err(Refusal::LengthOrRow);
     }
-    line_number(size, end)
+    line_cause(size, end)
 }
 
 // A word and a whole number. A word of more than 16 bytes is refused with 6.
-pub fn whole_line(out: &mut [u8], end: usize, word: &[u8], number: u64) -> Placed
-    ensures value { result ≡ word_answer word.now out.old end (whole_line word.now number) }
+pub fn whole_line(out: &mut [u8], end: usize, word: &[u8], number: u64) -> Result<usize, Refusal>
+    ensures value { placed_of result ≡ word_answer word.now out.old end (whole_line word.now number) }
     ensures out_after { out.new ≡ with_word word.now out.old end (whole_line word.now number) }
 {
-    let cause = word_number(word.len(), out.len(), end);
-    if cause != 0 {
-        return Placed {
-            number: cause,
-            start: 0,
-        };
-    }
-    let start = put_label(out, end, word, number, b'\n');
-    Placed { number: 0, start }
+    word_cause(word.len(), out.len(), end)?;
+    Ok(put_label(out, end, word, number, b'\n'))
 }
 
 // A word and two whole numbers. A word of more than 16 bytes is refused with 6.
-pub fn pair_line(out: &mut [u8], end: usize, word: &[u8], first: u64, second: u64) -> Placed
-    ensures value { result ≡ word_answer word.now out.old end (pair_line word.now first second) }
+pub fn pair_line(
+    out: &mut [u8],
+    end: usize,
+    word: &[u8],
+    first: u64,
+    second: u64,
+) -> Result<usize, Refusal>
+    ensures value { placed_of result ≡ word_answer word.now out.old end (pair_line word.now first second) }
     ensures out_after { out.new ≡ with_word word.now out.old end (pair_line word.now first second) }
 {
-    let cause = word_number(word.len(), out.len(), end);
-    if cause != 0 {
-        return Placed {
-            number: cause,
-            start: 0,
-        };
-    }
+    word_cause(word.len(), out.len(), end)?;
     let second_start = put_field(out, end, second, 0, b'\n');
-    let start = put_label(out, second_start, word, first, b' ');
-    Placed { number: 0, start }
+    Ok(put_label(out, second_start, word, first, b' '))
 }
 
 // A word and an amount. A word of more than 16 bytes is refused with 6.
-pub fn amount_line(out: &mut [u8], end: usize, word: &[u8], value: u64) -> Placed
-    ensures value { result ≡ word_answer word.now out.old end (amount_line word.now value) }
+pub fn amount_line(out: &mut [u8], end: usize, word: &[u8], value: u64) -> Result<usize, Refusal>
+    ensures value { placed_of result ≡ word_answer word.now out.old end (amount_line word.now value) }
     ensures out_after { out.new ≡ with_word word.now out.old end (amount_line word.now value) }
 {
-    let cause = word_number(word.len(), out.len(), end);
-    if cause != 0 {
-        return Placed {
-            number: cause,
-            start: 0,
-        };
-    }
+    word_cause(word.len(), out.len(), end)?;
     let value_start = put_field(out, end, value, 9, b'\n');
-    let start = put_word(out, value_start, word);
-    Placed { number: 0, start }
+    Ok(put_word(out, value_start, word))
 }

@@ -1,6 +1,7 @@
 -- Laws of the lines: how long they are, and what a call leaves.
 -- Assumes nothing.
 use mathlib.Core.Path.{◌≡◌, refl, sym, ◌∙◌, subst}
+use mathlib.Core.Bool.{Bool, true, false}
 use mathlib.Core.List.{List, ◌++◌, append_assoc}
 use Prim.Native.Nat.{ℕ, ◌+◌, ◌≤◌, ◌<◌, ◌^◌}
 use native.Mathlib.Omega.{arith}
@@ -8,17 +9,20 @@ use borrow.Author.Tests.{le-leb, lt-leb}
 use lib.IntN.{ℤ, nat_abs}
 use lib.ListN.{length, length-append}
 use Rattle.arithmetic.specs.Answers.{lowest_cause}
-use Rattle.arithmetic.proofs.CauseLaws.{lowest-first, lowest-none}
-use Rattle.arithmetic.proofs.Numbers.{by_order}
-use Rattle.limits.specs.Limits.{most_discount}
+use Rattle.arithmetic.proofs.CauseLaws.{lowest-first, lowest-second, lowest-less, lowest-none}
+use Rattle.arithmetic.proofs.Numbers.{by_order, by_equal}
+use Rattle.limits.specs.Limits.{most_discount, is_discount}
 use Rattle.step_rate.specs.declared.Rate.{Rate}
 use Rattle.step_rate.specs.StepRate.{rate_answer}
 use Rattle.step_rate.proofs.RateLaws.{answer-known, value-bound}
-use Rattle.text_laws.specs.declared.Placed.{Placed}
+use Rattle.std.specs.Prelude.{Result}
+use Rattle.std.specs.Result.{IsOk}
+use Rattle.arithmetic.specs.declared.Refusal.{Refusal}
+use Rattle.text_laws.specs.Put.{Placed, placed_of}
 use Rattle.text_laws.specs.inside.Put.{Put}
 use Rattle.text_laws.specs.Lines.{space, newline, whole_number, amount, node_line, row_line, price_line, line_number, node_number, line_of_node, longest_line}
 use Rattle.text_laws.proofs.DecimalLaws.{decimal-room, field_room, signed-room}
-use Rattle.text_laws.proofs.PutLaws.{put-before, Answered, put_refused, put-answered, answered-put}
+use Rattle.text_laws.proofs.PutLaws.{put-before, Answered, put_refused, put-answered, answered-ok, answered-put}
 
 -- ---- no line is longer than 128 bytes
 
@@ -75,7 +79,12 @@ module _ (out : List ℕ) (end : ℕ) (line : List ℕ) where
       (record { number = 0; start = start }) after
   line-put h p = put-answered _ out end line (sym (number-none (length out) end h p.within)) p
 
-  -- the same for a caller: the line was put where it had room
+  -- for a caller: a line that has room is not refused
+  pub line-ok : (answer : Result ℕ Refusal) {after : List ℕ} → longest_line ≤ end → end ≤ length out →
+      Answered (line_number (length out) end) out end line (placed_of answer) after → IsOk answer
+  line-ok answer h p a = answered-ok _ out end line answer a (sym (number-none (length out) end h p))
+
+  -- it was put
   pub line-stands : {answer : Placed} {after : List ℕ} → longest_line ≤ end → end ≤ length out → length line ≤ longest_line
       → Answered (line_number (length out) end) out end line answer after → Put out end line answer.start after
   line-stands h p l a = answered-put _ out end line a (sym (number-none (length out) end h p)) (omega arith) p
@@ -113,6 +122,34 @@ module _ (size end discount : ℕ) where
   unfolding node_number
   node-cause rate room found er em ef = ef ∙ rw (er, em)
 
+  -- a discount's own cause is 9
+  rate-cause : ((rate_answer discount).number ≡ 0 → ⊥) → (rate_answer discount).number ≡ 9
+  unfolding rate_answer
+  rate-cause some = by-test (is_discount discount) refl
+    where
+      by-test : (b : Bool) → is_discount discount ≡ b → (rate_answer discount).number ≡ 9
+      by-test true e = absurd (some (rw e))
+      by-test false e = rw e
+
+  line-small : line_number size end ≤ 6
+  line-small =
+      by_order longest_line end
+      (λ h. by_order end size (λ l. omega (arith, number-none size end h l)) (λ l. omega (arith, number-outside size end h l)))
+      (λ h. omega (arith, number-near size end h))
+
+  -- so that of the room comes first
+  pub node-near : (line_number size end ≡ 0 → ⊥) → line_number size end ≡ node_number size end discount
+  unfolding node_number
+  node-near some =
+      by_equal (rate_answer discount).number 0
+      (λ z. lowest-second _ _ some z)
+      (λ nz. lowest-less _ _ some nz (omega (arith, line-small, rate-cause nz)))
+
+  -- and that of the discount where there is room
+  pub node-far : line_number size end ≡ 0 → (rate_answer discount).number ≡ node_number size end discount
+  unfolding node_number
+  node-far z = lowest-first _ _ z
+
   pub node-room-known : (found : ℕ) → found ≡ node_number size end discount → found ≡ 0 → (longest_line ≤ end) × (end ≤ size)
   unfolding node_number
   node-room-known found e z = room-known size end (lowest-none (line_number size end) (rate_answer discount).number (sym e ∙ z)).0
@@ -139,6 +176,12 @@ pub node-line-room : (row discount : ℕ) (node : ℤ) → row < 2 ^ 64 → disc
     → length (line_of_node row node discount) ≤ longest_line
 unfolding line_of_node
 node-line-room row discount node a b c = node-room row discount node _ a b c (omega (arith, value-bound discount (rate_answer discount) refl))
+
+module _ (out : List ℕ) (end row discount : ℕ) (node : ℤ) where
+  -- it is not refused where it has room and its discount a step rate
+  pub node-ok : (answer : Result ℕ Refusal) {after : List ℕ} → longest_line ≤ end → end ≤ length out → 0 < discount → discount ≤ most_discount →
+      Answered (node_number (length out) end discount) out end (line_of_node row node discount) (placed_of answer) after → IsOk answer
+  node-ok answer h p l m a = answered-ok _ out end _ answer a (node-number-none (length out) end discount h p l m)
 
 -- the line was put where it had room and its discount a step rate
 pub node-stands : (out : List ℕ) (end row discount : ℕ) (node : ℤ) {answer : Placed} {after : List ℕ} → longest_line ≤ end → end ≤ length out → 0 < discount

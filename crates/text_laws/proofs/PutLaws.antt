@@ -7,8 +7,12 @@ use native.Mathlib.Omega.{arith}
 use borrow.Author.Tests.{eq-eqb, ne_eqb}
 use lib.ListN.{length, drop, take, set, length-append, length-drop, take-append-drop}
 use lib.Seq.{set_split, drop_at, length-take-le, take-append-le, take-take}
-use Rattle.text_laws.specs.declared.Placed.{Placed}
-use Rattle.text_laws.specs.Put.{put_before, place_of, with_text}
+use Rattle.std.specs.Prelude.{Result, Ok, Err}
+use Rattle.std.specs.Result.{IsOk}
+use Rattle.arithmetic.proofs.RefusalLaws.{cause-ok}
+use Rattle.arithmetic.specs.Refusals.{cause_of}
+use Rattle.arithmetic.specs.declared.Refusal.{Refusal}
+use Rattle.text_laws.specs.Put.{Placed, put_before, place_of, placed_of, with_text}
 use Rattle.text_laws.specs.inside.Put.{Put}
 
 -- putting nothing changes nothing
@@ -92,6 +96,10 @@ put_then {out} {after} {text} {end} {mid} byte p h = put-before p (put_one after
 
 -- ---- the answer to a put, by its number
 
+pub placed-cause : (answer : Result ℕ Refusal) → (placed_of answer).number ≡ cause_of answer
+placed-cause (Ok start) = refl
+placed-cause (Err refusal) = refl
+
 module _ (number : ℕ) (out : List ℕ) (end : ℕ) (text : List ℕ) where
   -- an answer, and the buffer afterwards
   abbrev pub Answered : Placed → List ℕ → Type 0
@@ -107,6 +115,11 @@ module _ (number : ℕ) (out : List ℕ) (end : ℕ) (text : List ℕ) where
       let test = eq-eqb number 0 z in
       let s : start ≡ end - length text = omega (arith, p.place) in
       (rw (test, s), rw test p.memory)
+
+  -- a text that is put is not refused
+  pub answered-ok : (answer : Result ℕ Refusal) {after : List ℕ} → Answered (placed_of answer) after → number ≡ 0 → IsOk answer
+  unfolding place_of
+  answered-ok answer a z = cause-ok answer (sym (placed-cause answer) ∙ ap (λ (p : Placed). p.number) a.0 ∙ rw (eq-eqb number 0 z))
 
   -- what a caller has of it
   module _ {answer : Placed} {after : List ℕ} (a : Answered answer after) where

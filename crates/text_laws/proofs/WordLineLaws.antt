@@ -2,19 +2,22 @@
 -- Assumes nothing.
 use mathlib.Core.Path.{◌≡◌, refl, sym, ◌∙◌}
 use mathlib.Core.List.{List, [], ◌∷◌, ◌++◌}
-use Prim.Native.Nat.{ℕ, ◌≤◌, ◌<◌, ◌^◌}
+use Prim.Native.Nat.{ℕ, ◌+◌, ◌≤◌, ◌<◌, ◌^◌}
 use native.Mathlib.Omega.{arith}
 use borrow.Author.Tests.{le-leb, lt-leb}
 use lib.ListN.{length, length-append}
 use Rattle.arithmetic.proofs.Numbers.{by_order}
-use Rattle.text_laws.specs.declared.Placed.{Placed}
+use Rattle.std.specs.Prelude.{Result}
+use Rattle.std.specs.Result.{IsOk}
+use Rattle.arithmetic.specs.declared.Refusal.{Refusal}
+use Rattle.text_laws.specs.Put.{Placed, placed_of}
 use Rattle.text_laws.specs.inside.Put.{Put}
 use Rattle.text_laws.specs.Decimal.{natural, natural_within, last_digits, decimal}
 use Rattle.text_laws.specs.Lines.{line_number, longest_line}
 use Rattle.text_laws.specs.WordLines.{whole_line, pair_line, amount_line, longest_word, word_number}
 use Rattle.text_laws.proofs.DecimalLaws.{decimal-room}
-use Rattle.text_laws.proofs.LineLaws.{number-none, room-known}
-use Rattle.text_laws.proofs.PutLaws.{put-before, Answered, put_refused, put-answered, answered-put}
+use Rattle.text_laws.proofs.LineLaws.{number-none, room-known, room-left}
+use Rattle.text_laws.proofs.PutLaws.{put-before, Answered, put_refused, put-answered, answered-ok, answered-put}
 
 -- ---- no line is longer than 128 bytes
 
@@ -63,11 +66,22 @@ module _ (word out : List ℕ) (end : ℕ) (line : List ℕ) where
       Answered number out end line (record { number = 0; start = start }) after
   word-put found e z p = put-answered number out end line (sym e ∙ z) p
 
-  -- the same for a caller: the line was put where it had room
+  -- for a caller: a line that has room is not refused
+  pub word-ok : (answer : Result ℕ Refusal) {after : List ℕ} → length word ≤ longest_word → longest_line ≤ end → end ≤ length out →
+      Answered number out end line (placed_of answer) after → IsOk answer
+  word-ok answer w h p a =
+      answered-ok number out end line answer a (sym (word-short _ _ _ w) ∙ sym (number-none (length out) end h p))
+
+  -- it was put
   pub word_stands : {answer : Placed} {after : List ℕ} → length word ≤ longest_word → longest_line ≤ end → end ≤ length out → length line ≤ longest_line →
       Answered number out end line answer after → Put out end line answer.start after
   word_stands w h p l a =
       answered-put number out end line a (sym (word-short _ _ _ w) ∙ sym (number-none (length out) end h p)) (omega arith) p
+
+  -- and leaves room before it
+  pub word-left : {answer : Placed} {after : List ℕ} (left : ℕ) → length word ≤ longest_word → longest_line + left ≤ end → end ≤ length out →
+      length line ≤ longest_line → Answered number out end line answer after → (left ≤ answer.start) × (answer.start ≤ length after)
+  word-left left w h p l a = room-left longest_line left (word_stands w (omega arith) p l a) h l
 
 -- LINES ONE AFTER THE OTHER: after a line that has room, the buffer holds the line and the text that was put before, as put at once
 pub word-before : {out₀ out text after : List ℕ} {end mid : ℕ} {answer : Placed} (word line : List ℕ) → Put out₀ end text mid out →

@@ -4,8 +4,7 @@ use Rattle.std.specs.Prelude.{ℕ, cond, ◌&&◌, List, [], ◌∷◌, ◌++◌
 use Rattle.text_laws.specs.Decimal.{decimal, signed_decimal}
 use Rattle.arithmetic.specs.Answers.{lowest_cause}
 use Rattle.step_rate.specs.StepRate.{rate_answer}
-use Rattle.text_laws.specs.declared.Placed.{Placed}
-use Rattle.text_laws.specs.Put.{place_of, with_text}
+use Rattle.text_laws.specs.Put.{Placed, place_of, with_text}
 
 -- a space and a line's end
 abbrev pub space : List ℕ

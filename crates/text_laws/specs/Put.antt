@@ -1,8 +1,19 @@
 -- A lent buffer into which text is put from its end.
 -- Assumes nothing.
-use Rattle.std.specs.Prelude.{ℕ, ◌+◌, ◌-◌, cond, List, ◌++◌, eqb, length, take, drop}
+use Rattle.std.specs.Prelude.{ℕ, ◌-◌, cond, List, ◌++◌, eqb, length, take, drop, Result, Ok, Err}
 use Rattle.arithmetic.specs.Answers.{unless_refused}
-use Rattle.text_laws.specs.declared.Placed.{Placed}
+use Rattle.arithmetic.specs.Refusals.{number_of}
+use Rattle.arithmetic.specs.declared.Refusal.{Refusal}
+
+-- number 0 and where a text starts, or the number of a refusal with start 0
+pub record Placed : Type 0 where
+  pub number : ℕ
+  pub start : ℕ
+
+-- the start of a text that may be refused, as such
+abbrev pub placed_of : Result ℕ Refusal → Placed
+placed_of (Ok start) = record { number = 0; start = start }
+placed_of (Err refusal) = record { number = number_of refusal; start = 0 }
 
 -- a buffer with a text that ends just before a place, everything else as it was
 unfoldable pub put_before : List ℕ → ℕ → List ℕ → List ℕ

@@ -1,9 +1,8 @@
 -- The lines of a book's report (document 02, request (xiv)), in the manner of the sheet's: a word with a whole number, with two, or with an amount.
 -- Assumes nothing.
 use Rattle.std.specs.Prelude.{ℕ, cond, List, ◌++◌, leb, length}
-use Rattle.text_laws.specs.declared.Placed.{Placed}
 use Rattle.text_laws.specs.Lines.{space, newline, whole_number, amount, line_number}
-use Rattle.text_laws.specs.Put.{place_of, with_text}
+use Rattle.text_laws.specs.Put.{Placed, place_of, with_text}
 
 unfoldable pub whole_line : List ℕ → ℕ → List ℕ
 whole_line word number = word ++ (whole_number number ++ newline)

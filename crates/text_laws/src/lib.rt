@@ -3,10 +3,3 @@
 
 // No line is longer.
 pub const LONGEST_LINE: usize = 128;
-
-// Number 0 and where the text starts, or the number of a refusal with start 0.
-#[derive(Drop)]
-pub struct Placed {
-    pub number: u64,
-    pub start: usize,
-}

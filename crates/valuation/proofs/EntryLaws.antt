@@ -11,6 +11,7 @@ use borrow.Author.Tests.{eq-eqb, ne_eqb, lt-ltb, le-ltb, le-leb, lt-leb, ltb-fal
 use Rattle.arithmetic.specs.Rounding.{one}
 use Rattle.arithmetic.specs.Sum.{sum, greatest}
 use Rattle.arithmetic.specs.Row.{values, greatest_of, sum_of}
+use Rattle.arithmetic.proofs.Numbers.{by_order}
 use Rattle.arithmetic.specs.Answers.{refused, answered, lowest_cause}
 use Rattle.arithmetic.specs.declared.Answer.{Answer}
 use Rattle.arithmetic.proofs.CauseLaws.{lowest-first, lowest-none}
@@ -156,10 +157,12 @@ module _ (prices payoffs : List ℕ) where
 
 -- ---- the error bound
 
-pub payoffs-few : {count nodes : ℕ} (greatest : ℕ) {high x : ℕ} → high ≡ limit_cause greatest → (count ≡ nodes → ⊥) → x ≡ lowest_cause 6 high →
-    x ≡ payoffs_cause count nodes greatest
-unfolding payoffs_cause
-payoffs-few {count} {nodes} greatest eh h e = e ∙ rw (ne_eqb count nodes h, eh)
+-- the number comes before the size
+pub payoffs-missing : (count nodes greatest : ℕ) → (count ≡ nodes → ⊥) → 6 ≡ payoffs_cause count nodes greatest
+unfolding payoffs_cause lowest_cause limit_cause
+payoffs-missing count nodes g h =
+    rw (ne_eqb count nodes h)
+    (by_order g value_limit (λ l. rw (le-ltb value_limit g l)) (λ l. rw (lt-ltb value_limit g l)))
 
 pub payoffs-counted : (count nodes greatest high : ℕ) → high ≡ limit_cause greatest → count ≡ nodes → high ≡ payoffs_cause count nodes greatest
 unfolding payoffs_cause
@@ -183,6 +186,12 @@ pub record Found (n b : ℕ) (discounts : List ℕ) (i : ℕ) (payoffs : List �
   pub highest : g ≡ greatest_of payoffs
   pub of-payoffs : p ≡ payoffs_cause (length payoffs) nodes.value g
   pub lowest : x ≡ lowest_cause bound.number p
+
+pub found :
+    {n b : ℕ} {discounts : List ℕ} {i : ℕ} {payoffs : List ℕ} {bound nodes : Answer} {g p x : ℕ} →
+    bound ≡ state_price_error_bound_answer n b discounts i → nodes ≡ node_count_answer b i → g ≡ greatest_of payoffs →
+    p ≡ payoffs_cause (length payoffs) nodes.value g → x ≡ lowest_cause bound.number p → Found n b discounts i payoffs bound nodes g p x
+found e₁ e₂ e₃ e₄ e₅ = record { row-bound = e₁; row-nodes = e₂; highest = e₃; of-payoffs = e₄; lowest = e₅ }
 
 module _ {n : ℕ} (b : ℕ) (discounts : List ℕ) {i : ℕ} (payoffs : List ℕ) where
   module _ {bound nodes : Answer} {g p x : ℕ} (f : Found n b discounts i payoffs bound nodes g p x) where

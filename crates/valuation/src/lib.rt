@@ -3,31 +3,24 @@
 
 ghost use Rattle.std.specs.Prelude.{◌≡◌, ◌≤◌, ltb, length};
 ghost use Rattle.arithmetic.specs.Row.{greatest_of, sum_of};
+ghost use Rattle.arithmetic.specs.Refusals.{cause_of, answer_of};
 ghost use Rattle.limits.specs.Limits.{value_limit, sum_limit};
 ghost use Rattle.valuation_laws.specs.Valuation.{valuation_bound};
 ghost use Rattle.valuation.specs.Entries.{payoffs_cause, value_by_state_prices_answer, valuation_error_bound_answer};
 ghost use Rattle.valuation.specs.inside.Products.{sum_of_products};
 
-use arithmetic::{Answer, ONE};
-
-fn refused(number: u64) -> Answer
-    ensures { result ≡ record { number = number; value = 0 } }
-{
-    Answer { number, value: 0 }
-}
+use arithmetic::{ONE, Refusal};
 
 // Whether state prices sum above 2,000,000,100. Tests what is left before it adds, so that no sum wraps.
 fn sums_above_limit(prices: &[u64]) -> bool
     ensures { result ≡ ltb sum_limit (sum_of prices.now) }
 {
     let mut total: u64 = 0;
-    let mut index = 0;
-    while index < prices.len() {
-        if 2_000_000_100 - total < prices[index] {
+    for price in prices {
+        if 2_000_000_100 - total < *price {
             return true;
         }
-        total += prices[index];
-        index += 1;
+        total += *price;
     }
     false
 }
@@ -38,49 +31,47 @@ fn sum_of_products(prices: &[u64], payoffs: &[u64]) -> u64
     ensures { result ≡ sum_of_products prices.now payoffs.now }
 {
     let mut total: u64 = 0;
-    let mut index = 0;
-    while index < prices.len() {
-        total += prices[index] * payoffs[index];
-        index += 1;
+    for (price, payoff) in prices.iter().zip(payoffs) {
+        total += *price * *payoff;
     }
     total
 }
 
 // The value of payoffs on a row, by the row's state prices.
-pub fn value_by_state_prices(prices: &[u64], payoffs: &[u64]) -> Answer
-    ensures { result ≡ value_by_state_prices_answer prices.now payoffs.now }
+pub fn value_by_state_prices(prices: &[u64], payoffs: &[u64]) -> Result<u64, Refusal>
+    ensures { answer_of result ≡ value_by_state_prices_answer prices.now payoffs.now }
 {
     if prices.len() != payoffs.len() {
-        return refused(6);
+        return Err(Refusal::LengthOrRow);
     }
     if prices.len() % 2 == 0 {
-        return refused(6);
+        return Err(Refusal::LengthOrRow);
     }
     if limits::MOST_NODES < prices.len() {
-        return refused(6);
+        return Err(Refusal::LengthOrRow);
     }
     if limits::VALUE_LIMIT < arithmetic::greatest_of(payoffs) {
-        return refused(12);
+        return Err(Refusal::Value);
     }
     if sums_above_limit(prices) {
-        return refused(12);
+        return Err(Refusal::Value);
     }
     let value = sum_of_products(prices, payoffs) / ONE;
     if limits::VALUE_LIMIT < value {
-        return refused(12);
+        return Err(Refusal::Value);
     }
-    Answer { number: 0, value }
+    Ok(value)
 }
 
 // The causes about payoffs: their number, then their size.
-fn payoffs_cause(count: usize, nodes: u64, greatest: u64) -> u64
-    ensures { result ≡ payoffs_cause count nodes greatest }
+fn payoffs_cause(count: usize, nodes: u64, greatest: u64) -> Result<(), Refusal>
+    ensures { cause_of result ≡ payoffs_cause count nodes greatest }
 {
-    let high = limits::limit_cause(greatest);
-    if count as u64 != nodes {
-        return arithmetic::lowest_cause(6, high);
+    if count as u64 == nodes {
+        limits::limit_cause(greatest)
+    } else {
+        Err(Refusal::LengthOrRow)
     }
-    high
 }
 
 fn bound_of_value(greatest: u64, bound: u64) -> u64
@@ -97,21 +88,12 @@ pub fn valuation_error_bound(
     discounts: &[u64],
     row: usize,
     payoffs: &[u64],
-) -> Answer
-    ensures { result ≡ valuation_error_bound_answer steps reversion discounts.now row payoffs.now }
+) -> Result<u64, Refusal>
+    ensures { answer_of result ≡ valuation_error_bound_answer steps reversion discounts.now row payoffs.now }
 {
     let bound = state_price_bound::state_price_error_bound(steps, reversion, discounts, row);
-    let nodes = lattice::node_count(reversion, row);
+    let nodes = lattice::node_count(reversion, row).unwrap_or(0);
     let greatest = arithmetic::greatest_of(payoffs);
-    let number = arithmetic::lowest_cause(
-        bound.number,
-        payoffs_cause(payoffs.len(), nodes.value, greatest),
-    );
-    if number != 0 {
-        return refused(number);
-    }
-    Answer {
-        number: 0,
-        value: bound_of_value(greatest, bound.value),
-    }
+    arithmetic::lowest_refusal(bound, payoffs_cause(payoffs.len(), nodes, greatest))?;
+    Ok(bound_of_value(greatest, bound.unwrap()))
 }

@@ -2,34 +2,40 @@
 // and of four spacings. vectors.py works the output out apart.
 #![tactic(auto)]
 
-ghost use Rattle.std.specs.Prelude.{◌≤◌};
+ghost use Rattle.std.specs.Prelude.{◌≤◌, ℕ};
 
 const BLOCK: u64 = 100;
 
 const LAST_BLOCK: u64 = 60;
 
-// The working reversion (kind 1), the ratio of the variance (kind 2) or the spacing.
-fn figure(kind: u64, frequency: u64, volatility: u64, reversion: u64) -> u64
+// The working reversion, the ratio of the variance and the spacing, each of version 2.
+fn working(reversion: u64) -> u64
     ensures { result ≤ 1000000000 }
 {
-    if kind == 1 {
-        return reversion::working_reversion(2, reversion).value;
-    }
-    if kind == 2 {
-        return reversion::variance_ratio(2, reversion).value;
-    }
-    spacing::version_spacing(2, frequency, volatility, reversion).value
+    reversion::working_reversion(2, reversion).unwrap_or(0)
 }
 
-// The sum over a block of reversions, with 0 for those beyond the limit.
-fn total(kind: u64, frequency: u64, volatility: u64, block: u64) -> u64
-    requires { block ≤ 60 }
+fn ratio(reversion: u64) -> u64
+    ensures { result ≤ 1000000000 }
+{
+    reversion::variance_ratio(2, reversion).unwrap_or(0)
+}
+
+fn spaced(frequency: u64, volatility: u64, reversion: u64) -> u64
+    ensures { result ≤ 1000000000 }
+{
+    spacing::version_spacing(2, frequency, volatility, reversion).unwrap_or(0)
+}
+
+// The sum of a figure over a block of reversions, with 0 for those beyond the limit.
+fn total<F: Fn(u64) -> u64>(block: u64, figure: F) -> u64
+    requires within { block ≤ 60 }
+    requires always { F.IsAlwaysCallable figure }
+    requires small { (x y : ℕ) → F.post figure x y → y ≤ 1000000000 }
 {
     let mut sum: u64 = 0;
-    let mut index: u64 = 0;
-    while index < BLOCK {
-        sum += figure(kind, frequency, volatility, block * BLOCK + index);
-        index += 1;
+    for index in 0..BLOCK {
+        sum += figure(block * BLOCK + index);
     }
     sum
 }
@@ -44,19 +50,17 @@ fn show_block(block: u64)
 {
     io::write_all(1, b"block");
     show(block);
-    show(total(1, 0, 0, block));
-    show(total(2, 0, 0, block));
-    show(total(3, 1, 10_000, block));
-    show(total(3, 2, 49_999, block));
-    show(total(3, 4, 1_234, block));
-    show(total(3, 12, 50_000, block));
+    show(total(block, |b| working(b)));
+    show(total(block, |b| ratio(b)));
+    show(total(block, |b| spaced(1, 10_000, b)));
+    show(total(block, |b| spaced(2, 49_999, b)));
+    show(total(block, |b| spaced(4, 1_234, b)));
+    show(total(block, |b| spaced(12, 50_000, b)));
     io::write_all(1, b"\n");
 }
 
 fn main() {
-    let mut block: u64 = 0;
-    while block <= LAST_BLOCK {
+    for block in 0..=LAST_BLOCK {
         show_block(block);
-        block += 1;
     }
 }

@@ -1,5 +1,5 @@
 use mathlib.Core.Path.{◌≡◌}
-use Prim.Native.Nat.{◌+◌, ◌-◌}
+use Prim.Native.Nat.{◌+◌}
 use native.Mathlib.Omega.{arith}
 use Rattle.limits.specs.Limits.{value_limit}
 use Rattle.bands.specs.Bands.{failing_price}
@@ -13,8 +13,7 @@ loop-price-init c = searched-start (omega arith)
 pub returns-then-covering-ne1 : goal.returns-then-covering-ne1
 unfolding failing_price
 returns-then-covering-ne1 c =
-    searched-found c.loop-price.price c.loop-price.invariant (omega arith)
-    (stop-fails c.stop_at-stop.ensures c.if-covering-ne1.true)
+    (searched-found c.loop-price.price c.loop-price.invariant (omega arith) (stop-fails c.stop_at-stop.ensures c.if-covering-ne1.true), omega arith)
 
 pub loop-price-smaller : goal.loop-price-smaller
 loop-price-smaller c = omega (arith, c.stop_at-stop.ensures.further)
@@ -28,6 +27,5 @@ loop-price-preserved c =
 pub returns : goal.returns
 unfolding failing_price
 returns c =
-    let a = c.args in
     let end : c.loop-price.price ≡ value_limit + 1 = omega (arith, c.loop-price.invariant.most) in
     searched-none (rw end at c.loop-price.invariant)

@@ -1,5 +1,4 @@
 use mathlib.Core.Path.{◌≡◌, sym, ◌∙◌}
-use Prim.Native.Nat.{◌-◌}
 use native.Mathlib.Omega.{arith}
 use mathlib.Core.Bool.{not}
 use mathlib.Core.Path.{ap}
@@ -14,18 +13,15 @@ loop-k-init c = searched-start (omega arith)
 pub returns-then-not-is_sound : goal.returns-then-not-is_sound
 unfolding bad_index
 returns-then-not-is_sound c =
-    let loop = c.loop-k in
-    searched-found loop.k loop.invariant (omega arith)
-    (ap not (sym c.is_sound.ensures ∙ c.if-not-is_sound.true))
+    (searched-found c.loop-k.k c.loop-k.invariant (omega arith) (ap not (sym c.is_sound.ensures ∙ c.if-not-is_sound.true)), omega arith)
 
 pub loop-k-preserved : goal.loop-k-preserved
 loop-k-preserved c =
-    let loop = c.loop-k in
-    searched-more loop.k loop.invariant (omega arith)
+    searched-more c.loop-k.k c.loop-k.invariant (omega arith)
     (ap not (sym c.is_sound.ensures ∙ c.if-not-is_sound.false))
 
 pub returns : goal.returns
 unfolding bad_index
 returns c =
     let end : c.loop-k.k ≡ length c.args.firsts.now = omega (arith, c.loop-k.invariant.most) in
-    end ∙ searched-none (rw end at c.loop-k.invariant)
+    searched-none (rw end at c.loop-k.invariant)

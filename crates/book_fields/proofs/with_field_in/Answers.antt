@@ -21,4 +21,9 @@ with_prices-requires c =
 pub returns : goal.returns
 returns c =
     let going = sym c.is_open.ensures ∙ c.if-not-is_open.false in
-    let room = c.if-book-ge-MOST_FIELDS.false in record { answer = c.with_prices.ensures ∙ ap (λ p. with_prices c.args.book p) c.prices_of.ensures.answer ∙ sym (field-added _ _ going room); discounted = c.prices_of.ensures.discounted ∙ memory-added _ _ _ _ going room; priced = c.prices_of.ensures.priced ∙ memory-added _ _ _ _ going room }
+    let room = c.if-book-ge-MOST_FIELDS.false in
+    record {
+      answer = c.with_prices.ensures ∙ ap (λ p. with_prices c.args.book p) c.prices_of.ensures.answer ∙ sym (field-added _ _ going room);
+      discounted = c.prices_of.ensures.discounted ∙ memory-added _ _ _ _ going room;
+      priced = c.prices_of.ensures.priced ∙ memory-added _ _ _ _ going room;
+    }

@@ -4,7 +4,8 @@ use Rattle.book_laws.proofs.ReportLaws.{answer-short, memory-short, answer-put, 
 use Rattle.book_lines.proofs.lines.Goals as goal
 
 pub returns-then-room-lt-BOOK_ROOM : goal.returns-then-room-lt-BOOK_ROOM
-returns-then-room-lt-BOOK_ROOM c = record { answer = answer-short _ c.args.out.now c.if-room-lt-BOOK_ROOM.true; within = omega arith; memory = memory-short _ _ c.if-room-lt-BOOK_ROOM.true }
+returns-then-room-lt-BOOK_ROOM c =
+    record { answer = answer-short _ c.args.out.now c.if-room-lt-BOOK_ROOM.true; within = omega arith; memory = memory-short _ _ c.if-room-lt-BOOK_ROOM.true }
 
 pub returns : goal.returns
 returns c =

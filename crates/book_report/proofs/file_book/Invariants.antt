@@ -1,11 +1,7 @@
-use lib.ListN.{length, drop}
-use mathlib.Core.Path.{◌≡◌}
-use Prim.Native.Nat.{◌≤◌}
+use Rattle.std.proofs.Common.{◌≡◌, ◌≤◌, ◌-◌, length, drop}
+use Rattle.book_laws.specs.Books.{most_fields}
 use Rattle.book_laws.specs.Files.{streamed, file_book}
 use Rattle.book_report.proofs.file_book.Given as goal
 
-abbrev pub invariant-loop-left : goal.invariant-loop-left
-invariant-loop-left l = (l.at ≤ length l.file) × (streamed l.left l.book (drop l.at l.file) ≡ file_book l.file)
-
-abbrev pub decreases-loop-left : goal.decreases-loop-left
-decreases-loop-left l = l.left
+abbrev pub invariant-loop : goal.invariant-loop
+invariant-loop l = (l.at ≤ length l.file) × (streamed (most_fields - l.counter) l.book (drop l.at l.file) ≡ file_book l.file)

@@ -12,4 +12,4 @@ returns-then-bytes-ne16 c = record { value = head-other _ c.if-bytes-lt3.false c
 pub returns : goal.returns
 unfolding field_size
 returns c =
-    record { value = rw (c.wide.ensures.0, c.wide-2.ensures.0) (head-sound _ c.if-bytes-lt3.false c.if-bytes-ne16.false); size_bound = omega arith }
+    record { value = rw (c.from.ensures, c.from-2.ensures) (head-sound _ c.if-bytes-lt3.false c.if-bytes-ne16.false); size_bound = omega arith }

@@ -17,8 +17,8 @@ first c = sym c.is_report.ensures ∙ c.if-not-is_report.false
 
 pub returns-then-not-is_report-2 : goal.returns-then-not-is_report-2
 returns-then-not-is_report-2 c =
-    let at-if1 = c.before in
-    c.refused-then-not-is_report-2.ensures ∙ second-refused _ _ (first (goal.at.returns-then-not-is_report-2 c).Else-not-is_report) (sym c.is_report-2.ensures ∙ c.if-not-is_report-2.true)
+    c.refused-then-not-is_report-2.ensures
+    ∙ second-refused _ _ (first (goal.at.returns-then-not-is_report-2 c).Else-not-is_report) (sym c.is_report-2.ensures ∙ c.if-not-is_report-2.true)
 
 -- and so is the second
 second : (c : Else-not-is_report-2) → is_report c.args.second ≡ true
@@ -33,8 +33,10 @@ overflow_add-size c =
 sizes : (c : After-struct_known-2-1) →
     (size_of c.args.first ≤ most_size)
     × (size_of c.args.second ≤ most_size)
-sizes c =
-    ((report-sound c.args.first (first (goal.at.After-struct_known-2-1 c).Else-not-is_report)).size, (report-sound c.args.second (second (goal.at.After-struct_known-2-1 c).Else-not-is_report-2)).size)
+sizes c = (
+  (report-sound c.args.first (first (goal.at.After-struct_known-2-1 c).Else-not-is_report)).size,
+  (report-sound c.args.second (second (goal.at.After-struct_known-2-1 c).Else-not-is_report-2)).size,
+)
 
 pub overflow_add-size-2 : goal.overflow_add-size-2
 overflow_add-size-2 c = omega (arith, (sizes c).1)
@@ -44,15 +46,15 @@ overflow_add-size-3 c = omega (arith, (sizes c).0, (sizes c).1)
 
 pub returns-then-size-gt-MOST_SIZE : goal.returns-then-size-gt-MOST_SIZE
 returns-then-size-gt-MOST_SIZE c =
-    let at-if2 = c.before.before.before in
-    let at-if1 = at-if2.before.before in
-    c.refused-then-size-gt-MOST_SIZE.ensures ∙ too_many _ _ (first (goal.at.returns-then-size-gt-MOST_SIZE c).Else-not-is_report) (second (goal.at.returns-then-size-gt-MOST_SIZE c).Else-not-is_report-2) c.if-size-gt-MOST_SIZE.true
+    c.refused-then-size-gt-MOST_SIZE.ensures
+    ∙ too_many _ _ (first (goal.at.returns-then-size-gt-MOST_SIZE c).Else-not-is_report)
+    (second (goal.at.returns-then-size-gt-MOST_SIZE c).Else-not-is_report-2) c.if-size-gt-MOST_SIZE.true
 
 pub sum_of-sum-requires : goal.sum_of-sum-requires
-sum_of-sum-requires c = (first (goal.at.sum_of-sum-requires c).Else-not-is_report, second (goal.at.sum_of-sum-requires c).Else-not-is_report-2, c.if-size-gt-MOST_SIZE.false)
+sum_of-sum-requires c =
+    (first (goal.at.sum_of-sum-requires c).Else-not-is_report, second (goal.at.sum_of-sum-requires c).Else-not-is_report-2, c.if-size-gt-MOST_SIZE.false)
 
 pub returns : goal.returns
 returns c =
-    let at-if2 = c.before.before.before in
-    let at-if1 = at-if2.before.before in
-    ap given_join c.sum_of-sum.ensures ∙ join-given _ _ (first (goal.at.returns c).Else-not-is_report) (second (goal.at.returns c).Else-not-is_report-2) c.if-size-gt-MOST_SIZE.false
+    ap given_join c.sum_of-sum.ensures
+    ∙ join-given _ _ (first (goal.at.returns c).Else-not-is_report) (second (goal.at.returns c).Else-not-is_report-2) c.if-size-gt-MOST_SIZE.false

@@ -1,26 +1,21 @@
-use mathlib.Core.Path.{◌≡◌, sym, ◌∙◌, ap}
-use mathlib.Core.Bool.{true}
+use mathlib.Core.Path.{sym, ◌∙◌, ap}
 use Prim.Native.Nat.{◌*◌, ◌≤◌}
 use native.Mathlib.Omega.{arith}
 use mir.Syntax.{w64}
 use mir.Facts.{to_z_pos}
 use Rattle.arithmetic.proofs.Signed.{minus-fits, minus-back}
-use Rattle.limits.specs.Limits.{is_discount}
 use Rattle.limits.proofs.LimitLaws.{discount-most}
 use Rattle.step_rate.specs.StepRate.{answered_rate}
 use Rattle.continuous_rate.proofs.Candidates.{rate-above, rate-below}
 use Rattle.continuous_rate.proofs.RateLaws.{answer-refused, answer-known, quotient_fits}
 use Rattle.continuous_rate.proofs.of_discount.Goals as goal
-use Rattle.continuous_rate.proofs.of_discount.Goals.{After-nearest_above, After-nearest_below, Else-not-is_discount}
+use Rattle.continuous_rate.proofs.of_discount.Goals.{After-nearest_above, After-nearest_below}
 
 pub returns-then-not-is_discount : goal.returns-then-not-is_discount
 returns-then-not-is_discount c = sym (answer-refused c.args.discount (sym c.is_discount.ensures ∙ c.if-not-is_discount.true))
 
-known : (c : Else-not-is_discount) → is_discount c.args.discount ≡ true
-known c = sym c.is_discount.ensures ∙ c.if-not-is_discount.false
-
 pub nearest_below-requires : goal.nearest_below-requires
-nearest_below-requires c = (omega arith, discount-most _ (known c.before))
+nearest_below-requires c = (omega arith, discount-most _ (sym c.is_discount.ensures ∙ c.if-not-is_discount.false))
 
 -- four times the quotient found is within the limit
 below-fits : (c : After-nearest_below) → 4 * c.nearest_below.result ≤ 4000000000
@@ -43,7 +38,7 @@ returns-then-discount-gt-ONE c =
     let v = c.args.discount in
     let q = c.nearest_below.result in
     ap answered_rate (minus-back (4 * q) (omega (arith, below-fits c)) ∙ sym (rate-below v q (omega arith) c.nearest_below.ensures))
-    ∙ sym (answer-known v (known c.before.before))
+    ∙ sym (answer-known v (sym c.is_discount.ensures ∙ c.if-not-is_discount.false))
 
 pub overflow_mul-result-2 : goal.overflow_mul-result-2
 overflow_mul-result-2 c = omega (arith, above-fits c)
@@ -56,4 +51,4 @@ returns c =
     let v = c.args.discount in
     let q = c.nearest_above.result in
     ap answered_rate (to_z_pos w64 (omega (arith, above-fits c)) ∙ sym (rate-above v q (omega arith) c.nearest_above.ensures))
-    ∙ sym (answer-known v (known c.before.before))
+    ∙ sym (answer-known v (sym c.is_discount.ensures ∙ c.if-not-is_discount.false))

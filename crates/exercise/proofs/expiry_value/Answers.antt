@@ -5,5 +5,4 @@ use Rattle.exercise.proofs.expiry_value.Goals as goal
 
 pub returns : goal.returns
 returns c =
-    let a = c.args in
-    c.exercise_value.ensures ∙ ap (exercise (side a.call) a.strike) c.excess.ensures
+    c.exercise_value.ensures ∙ ap (exercise (side c.args.call) c.args.strike) c.excess.ensures

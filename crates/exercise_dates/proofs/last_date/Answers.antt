@@ -8,4 +8,4 @@ pub returns-then-count-eq0 : goal.returns-then-count-eq0
 returns-then-count-eq0 c = none_last c.args.dates.now c.if-count-eq0.true
 
 pub overflow_cast-result : goal.overflow_cast-result
-overflow_cast-result c = omega (arith, c.shared_slice_known-1.given (length c.args.dates.now - 1))
+overflow_cast-result c = omega (arith, c.type_inv.dates (length c.args.dates.now - 1))

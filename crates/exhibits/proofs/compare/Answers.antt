@@ -28,4 +28,4 @@ pub overflow_add-exact : goal.overflow_add-exact
 overflow_add-exact c = omega (arith, exact-most c, room_most (goal.at.overflow_add-exact c).Start)
 
 pub overflow_add-shown : goal.overflow_add-shown
-overflow_add-shown c = let s = c.before.before.before.before.before in omega (arith, shown-most (goal.at.overflow_add-shown c).Start, room_most (goal.at.overflow_add-shown c).Start)
+overflow_add-shown c = omega (arith, shown-most (goal.at.overflow_add-shown c).Start, room_most (goal.at.overflow_add-shown c).Start)

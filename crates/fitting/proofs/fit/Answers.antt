@@ -1,13 +1,10 @@
 use Rattle.fitting.proofs.FitEntry as laws
 use Rattle.fitting.proofs.fit.Goals as goal
 
-clauses-number-discounted-priced : {A B C : Type 0} → A × (B × C) → record { number : A; discounted : B; priced : C }
-clauses-number-discounted-priced w = record { number = w.0; discounted = w.1.0; priced = w.1.1 }
-
 pub fit_tree-requires : goal.fit_tree-requires
 fit_tree-requires c = laws.spacing-known _ _ _ c.spacing-spaced.ensures
 
 pub returns : goal.returns
 returns c =
-    let a = c.args in clauses-number-discounted-priced (laws.fit-answered a.frequency a.steps a.rows.now a.kinds.now a.figures.now a.discounts.now a.state_prices.now
-    a.reversion a.volatility c.spacing-spaced.result c.spacing-spaced.ensures (c.fit_tree.ensures.number, (c.fit_tree.ensures.discounted, c.fit_tree.ensures.priced)))
+    laws.clauses (laws.fit-answered _ _ _ _ _ _ _ _ _ _ c.spacing-spaced.ensures
+    (c.fit_tree.ensures.number, (c.fit_tree.ensures.discounted, c.fit_tree.ensures.priced)))

@@ -12,7 +12,8 @@ pub returns-then-input-at : goal.returns-then-input-at
 returns-then-input-at c = clauses-frame-inside (laws.cut_short _ _ _ c.no_frame-then-input-at.ensures (omega (arith, c.if-input-at.true)))
 
 pub returns-then-input-start : goal.returns-then-input-start
-returns-then-input-start c = clauses-frame-inside (laws.frame-cut _ _ _ c.size_of-size.ensures _ c.no_frame-then-input-start.ensures (omega (arith, c.if-input-start.true)))
+returns-then-input-start c =
+    clauses-frame-inside (laws.frame-cut _ _ _ c.size_of-size.ensures _ c.no_frame-then-input-start.ensures (omega (arith, c.if-input-start.true)))
 
 pub returns : goal.returns
 returns c = clauses-frame-inside (laws.frame_found _ _ _ c.size_of-size.ensures (omega (arith, c.if-input-start.false)))

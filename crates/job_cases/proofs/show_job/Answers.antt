@@ -41,5 +41,5 @@ slice_bounds-show_rows-end-3 c = sym (flows-lent (goal.at.slice_bounds-show_rows
 
 pub show_rows-requires : goal.show_rows-requires
 show_rows-requires c =
-    let copied = c.before.before.before in
-    (figures-lent (goal.at.show_rows-requires c).After-flows-1 ∙ sym (kinds-lent (goal.at.show_rows-requires c).After-flows-1), flows-lent (goal.at.show_rows-requires c).After-flows-1 ∙ sym (kinds-lent (goal.at.show_rows-requires c).After-flows-1))
+    let copied = (goal.at.show_rows-requires c).After-flows-1 in
+    (figures-lent copied ∙ sym (kinds-lent copied), flows-lent copied ∙ sym (kinds-lent copied))

@@ -14,7 +14,9 @@ kinds-size : (s : Start) → length s.args.job.kinds ≡ most_job_steps
 kinds-size s = search rules
 
 pub returns-then-steps-gt-MOST_STEPS : goal.returns-then-steps-gt-MOST_STEPS
-returns-then-steps-gt-MOST_STEPS c = clauses-number-discounted-priced (laws.fit_refused c.args.job c.if-steps-gt-MOST_STEPS.true c.args.discounts.now c.args.state_prices.now)
+returns-then-steps-gt-MOST_STEPS c =
+    clauses-number-discounted-priced
+    (laws.fit_refused c.args.job c.if-steps-gt-MOST_STEPS.true c.args.discounts.now c.args.state_prices.now)
 
 pub slice_bounds-fit_version-end : goal.slice_bounds-fit_version-end
 slice_bounds-fit_version-end c =
@@ -25,8 +27,7 @@ slice_bounds-kinds-end c = omega (arith, kinds-size (goal.at.slice_bounds-kinds-
 
 pub slice_bounds-fit_version-end-2 : goal.slice_bounds-fit_version-end-2
 slice_bounds-fit_version-end-2 c =
-    let s = c.before.before.before in
-    laws.lent-column s.args.job.kinds s.args.job.steps (omega (arith, kinds-size (goal.at.slice_bounds-fit_version-end-2 c).Start))
+    laws.lent-column c.args.job.kinds c.args.job.steps (omega (arith, kinds-size (goal.at.slice_bounds-fit_version-end-2 c).Start))
 
 pub slice_bounds-fit_version-end-3 : goal.slice_bounds-fit_version-end-3
 slice_bounds-fit_version-end-3 c =
@@ -34,5 +35,8 @@ slice_bounds-fit_version-end-3 c =
 
 pub returns : goal.returns
 returns c =
-    let a = c.args in clauses-number-discounted-priced (laws.fit-made a.job (omega arith) _ _ c.rows_of-rows.ensures.1 c.figures_of-figures.ensures.1
-    c.meant_version.result c.meant_version.ensures a.discounts.now a.state_prices.now _ _ _ (c.fit_version.ensures.number, (c.fit_version.ensures.discounted, c.fit_version.ensures.priced)))
+    let a = c.args in
+    let fit = c.fit_version.ensures in
+    clauses-number-discounted-priced
+    (laws.fit-made a.job (omega arith) _ _ c.rows_of-rows.ensures.1 c.figures_of-figures.ensures.1 c.meant_version.result
+    c.meant_version.ensures a.discounts.now a.state_prices.now _ _ _ (fit.number, (fit.discounted, fit.priced)))

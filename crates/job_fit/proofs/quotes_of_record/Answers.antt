@@ -25,8 +25,7 @@ slice_bounds-kinds-end c = omega (arith, kinds-size (goal.at.slice_bounds-kinds-
 
 pub slice_bounds-convert-end-2 : goal.slice_bounds-convert-end-2
 slice_bounds-convert-end-2 c =
-    let s = c.before.before in
-    laws.lent-column s.args.job.kinds s.args.job.steps (omega (arith, kinds-size (goal.at.slice_bounds-convert-end-2 c).Start))
+    laws.lent-column c.args.job.kinds c.args.job.steps (omega (arith, kinds-size (goal.at.slice_bounds-convert-end-2 c).Start))
 
 pub slice_bounds-convert-end-3 : goal.slice_bounds-convert-end-3
 slice_bounds-convert-end-3 c =
@@ -35,4 +34,7 @@ slice_bounds-convert-end-3 c =
 pub returns : goal.returns
 returns c =
     let a = c.args in
-    let quotes = c.convert.ensures in clauses-number-memory (laws.quotes-made a.job (omega arith) _ _ c.rows_of-rows.ensures.1 c.figures_of-figures.ensures.1 a.quotes.now _ _ quotes.number quotes.memory)
+    let quotes = c.convert.ensures in
+    clauses-number-memory
+    (laws.quotes-made a.job (omega arith) _ _ c.rows_of-rows.ensures.1 c.figures_of-figures.ensures.1 a.quotes.now _ _ quotes.number
+    quotes.memory)

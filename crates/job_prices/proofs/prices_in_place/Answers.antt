@@ -1,77 +1,97 @@
-use mathlib.Core.Path.{◌≡◌, sym, ◌∙◌}
-use Prim.Native.Nat.{◌≤◌}
-use native.Mathlib.Omega.{arith}
-use lib.ListN.{length}
+use Rattle.std.proofs.Common.{◌≡◌, ◌≤◌, length, refl, sym, arith}
 use borrow.Author.Rules.{rules}
 use Rattle.job_record.specs.Form.{most_job_steps}
-use Rattle.job_laws.proofs.FitLaws.{lent-column}
+use Rattle.limits.specs.WithinLimits.{WithinLimits}
+use Rattle.arithmetic.proofs.RefusalLaws.{refusal-some}
+use Rattle.lattice.proofs.TreeEntries.{tree-ok}
+use Rattle.job_laws.proofs.FitLaws.{Fitted, accepted, lent-column}
 use Rattle.job_laws.specs.JobPrices.{option_form}
 use Rattle.job_laws.proofs.PriceLaws as laws
+use Rattle.job_prices.proofs.Clauses.{clauses}
 use Rattle.job_prices.proofs.prices_in_place.Goals as goal
-use Rattle.job_prices.proofs.prices_in_place.Goals.{After-discounts_needed-count, After-slice_known-4-1, Start}
+use Rattle.job_prices.proofs.prices_in_place.Goals.{After-meant_reversion-reversion, In_default, In_default-fit_of_record, Start}
 
-clauses-answer-discounted-priced : {A B C : Type 0} → A × (B × C) → record { answer : A; discounted : B; priced : C }
-clauses-answer-discounted-priced w = record { answer = w.0; discounted = w.1.0; priced = w.1.1 }
-
-pub returns-then-form-ne0 : goal.returns-then-form-ne0
-returns-then-form-ne0 c =
-    let a = c.args in clauses-answer-discounted-priced (laws.form-refused a.job a.discounts.now a.state_prices.now _ c.option_form-form.ensures c.if-form-ne0.true _ c.refused.ensures)
+pub returns-in-Err : goal.returns-in-Err
+returns-in-Err c =
+    let a = c.args in
+    clauses
+    (laws.form-refused a.job a.discounts.now a.state_prices.now _ c.in-Err.ensures (refusal-some _) _ (rw c.number.ensures at c.refused.ensures))
 
 -- the option has a job's form
-form-none : (c : After-slice_known-4-1) → let a = c.args in option_form a.job.option.tag a.job.option.count ≡ 0
-form-none c = sym c.option_form-form.ensures ∙ c.if-form-ne0.false
+form-none : (c : In_default) → let a = c.args in option_form a.job.option.tag a.job.option.count ≡ 0
+form-none c = sym (rw c.in_default.is at c.option_form.ensures)
 
-pub returns-then-fitted-ne0 : goal.returns-then-fitted-ne0
-returns-then-fitted-ne0 c =
-    let known = c.before.before in
-    let a = known.args in clauses-answer-discounted-priced (laws.fit_refused a.job a.discounts.now a.state_prices.now (form-none (goal.at.returns-then-fitted-ne0 c).After-slice_known-4-1) _ _ _ (known.fit_of_record-fitted.ensures.number, (known.fit_of_record-fitted.ensures.discounted, known.fit_of_record-fitted.ensures.priced)) _
-    c.refused-then-fitted-ne0.ensures c.if-fitted-ne0.true)
+pub returns-in-Err-fit_of_record : goal.returns-in-Err-fit_of_record
+returns-in-Err-fit_of_record c =
+    let a = c.args in
+    let fit = rw c.in-Err-fit_of_record.is at c.fit_of_record.ensures in
+    clauses
+    (laws.fit_refused a.job a.discounts.now a.state_prices.now (form-none (goal.at.returns-in-Err-fit_of_record c).In_default) _ _ _
+    (fit.number, (fit.discounted, fit.priced)) _ (rw c.number-in-Err-fit_of_record.ensures at c.refused-in-Err-fit_of_record.ensures) (refusal-some _))
 
-few : (c : After-discounts_needed-count) → c.args.job.steps ≤ most_job_steps
+-- the fit that the prices are made of
+fitted : (c : In_default-fit_of_record) →
+    let a = c.args in
+    Fitted a.job a.discounts.now a.state_prices.now 0 c.fit_of_record.new.discounts c.fit_of_record.new.state_prices
+fitted c =
+    let fit = rw c.in_default-fit_of_record.is at c.fit_of_record.ensures in
+    (fit.number, (fit.discounted, fit.priced))
+
+within : (c : After-meant_reversion-reversion) → WithinLimits c.args.job.steps c.meant_reversion-reversion.result
+within c =
+    let none = sym (fitted (goal.at.After-meant_reversion-reversion c).In_default-fit_of_record).0 in
+    rw c.meant_reversion-reversion.ensures (accepted c.args.job _ _ none)
+
+few : (c : In_default-fit_of_record) → c.args.job.steps ≤ most_job_steps
 few c =
-    let known = c in
-    let a = known.args in
-    laws.steps-within a.job a.discounts.now a.state_prices.now (form-none (goal.at.After-discounts_needed-count c).After-slice_known-4-1) _ _ _ (known.fit_of_record-fitted.ensures.number, (known.fit_of_record-fitted.ensures.discounted, known.fit_of_record-fitted.ensures.priced)) c.if-fitted-ne0.false
+    let a = c.args in
+    laws.steps-within a.job a.discounts.now a.state_prices.now (form-none (goal.at.In_default-fit_of_record c).In_default) _ _ _ (fitted c) refl
+
+pub unwrap-count-requires : goal.unwrap-count-requires
+unwrap-count-requires c =
+    tree-ok _ _ _ _ c.discounts_needed.ensures (within (goal.at.unwrap-count-requires c).After-meant_reversion-reversion)
 
 pub slice_bounds-tree_prices-end : goal.slice_bounds-tree_prices-end
 slice_bounds-tree_prices-end c =
-    let known = c in
-    let a = known.args in
-    let meant = c.meant_reversion-reversion in
-    laws.discounts-end a.job a.discounts.now a.state_prices.now (form-none (goal.at.slice_bounds-tree_prices-end c).After-slice_known-4-1) _ _ _ (known.fit_of_record-fitted.ensures.number, (known.fit_of_record-fitted.ensures.discounted, known.fit_of_record-fitted.ensures.priced))
-    c.if-fitted-ne0.false meant.result meant.ensures c.discounts_needed-count.result c.discounts_needed-count.ensures
+    let a = c.args in
+    laws.discounts-end a.job a.discounts.now a.state_prices.now (form-none (goal.at.slice_bounds-tree_prices-end c).In_default) _ _ _
+    (fitted (goal.at.slice_bounds-tree_prices-end c).In_default-fit_of_record) refl c.meant_reversion-reversion.result
+    c.meant_reversion-reversion.ensures _ (rw c.unwrap-count.ensures at c.discounts_needed.ensures)
 
 pub slice_bounds-tree_prices-end-2 : goal.slice_bounds-tree_prices-end-2
 slice_bounds-tree_prices-end-2 c =
-    let known = c in
-    let a = known.args in
-    let meant = c.meant_reversion-reversion in
-    laws.discounts-count a.job a.discounts.now a.state_prices.now (form-none (goal.at.slice_bounds-tree_prices-end-2 c).After-slice_known-4-1) _ _ _ (known.fit_of_record-fitted.ensures.number, (known.fit_of_record-fitted.ensures.discounted, known.fit_of_record-fitted.ensures.priced))
-    c.if-fitted-ne0.false meant.result meant.ensures c.discounts_needed-count.result c.discounts_needed-count.ensures
+    let a = c.args in
+    laws.discounts-count a.job a.discounts.now a.state_prices.now (form-none (goal.at.slice_bounds-tree_prices-end-2 c).In_default) _ _ _
+    (fitted (goal.at.slice_bounds-tree_prices-end-2 c).In_default-fit_of_record) refl c.meant_reversion-reversion.result
+    c.meant_reversion-reversion.ensures _ (rw c.unwrap-count.ensures at c.discounts_needed.ensures)
 
 flows-size : (s : Start) → length s.args.job.flows ≡ most_job_steps
 flows-size s = search rules
 
 pub slice_bounds-flows-end : goal.slice_bounds-flows-end
-slice_bounds-flows-end c = omega (arith, flows-size (goal.at.slice_bounds-flows-end c).Start, few (goal.at.slice_bounds-flows-end c).After-discounts_needed-count)
+slice_bounds-flows-end c =
+    omega (
+      arith,
+      flows-size (goal.at.slice_bounds-flows-end c).Start,
+      few (goal.at.slice_bounds-flows-end c).In_default-fit_of_record,
+    )
 
 pub slice_bounds-tree_prices-end-3 : goal.slice_bounds-tree_prices-end-3
 slice_bounds-tree_prices-end-3 c =
-    let counted = c.before.before in
-    let s = counted in
-    lent-column s.args.job.flows s.args.job.steps (omega (arith, flows-size (goal.at.slice_bounds-tree_prices-end-3 c).Start, few (goal.at.slice_bounds-tree_prices-end-3 c).After-discounts_needed-count))
+    let size = flows-size (goal.at.slice_bounds-tree_prices-end-3 c).Start in
+    let steps = few (goal.at.slice_bounds-tree_prices-end-3 c).In_default-fit_of_record in
+    lent-column c.args.job.flows c.args.job.steps (omega (arith, size, steps))
 
 pub tree_prices-requires : goal.tree_prices-requires
 tree_prices-requires c =
-    let known = c in
-    let a = known.args in
-    laws.dates-few a.job a.discounts.now a.state_prices.now (form-none (goal.at.tree_prices-requires c).After-slice_known-4-1) _ _ _ (known.fit_of_record-fitted.ensures.number, (known.fit_of_record-fitted.ensures.discounted, known.fit_of_record-fitted.ensures.priced))
-    c.if-fitted-ne0.false
+    let a = c.args in
+    laws.dates-few a.job a.discounts.now a.state_prices.now (form-none (goal.at.tree_prices-requires c).In_default) _ _ _
+    (fitted (goal.at.tree_prices-requires c).In_default-fit_of_record) refl
 
 pub returns : goal.returns
 returns c =
-    let known = c in
-    let a = known.args in
-    let meant = c.meant_reversion-reversion in clauses-answer-discounted-priced (laws.prices-made a.job a.discounts.now a.state_prices.now (form-none (goal.at.returns c).After-slice_known-4-1) _ _ _ (known.fit_of_record-fitted.ensures.number, (known.fit_of_record-fitted.ensures.discounted, known.fit_of_record-fitted.ensures.priced))
-    c.if-fitted-ne0.false meant.result meant.ensures c.discounts_needed-count.result c.discounts_needed-count.ensures _
-    c.tree_prices.ensures)
+    let a = c.args in
+    clauses
+    (laws.prices-made a.job a.discounts.now a.state_prices.now (form-none (goal.at.returns c).In_default) _ _ _
+    (fitted (goal.at.returns c).In_default-fit_of_record) refl c.meant_reversion-reversion.result
+    c.meant_reversion-reversion.ensures _ (rw c.unwrap-count.ensures at c.discounts_needed.ensures) _ c.tree_prices.ensures)

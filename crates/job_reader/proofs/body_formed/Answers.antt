@@ -31,7 +31,6 @@ after_fields-requires c = omega (arith, c.after_fields-flows.ensures.0)
 
 pub returns : goal.returns
 returns c =
-    let formed = c.before in
-    let flows-at = formed.before.before in
     c.rest_formed.ensures
-    ∙ formed-by-rest _ _ _ (quotes (goal.at.returns c).Else-not-fields_from) _ flows-at.after_fields-flows.ensures.0 (flows (goal.at.returns c).Else-not-fields_from-2) _ c.after_fields.ensures.0
+    ∙ formed-by-rest _ _ _ (quotes (goal.at.returns c).Else-not-fields_from) _ c.after_fields-flows.ensures.0
+    (flows (goal.at.returns c).Else-not-fields_from-2) _ c.after_fields.ensures.0

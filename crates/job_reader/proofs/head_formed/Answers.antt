@@ -33,7 +33,6 @@ steps c = passed c.field_at-2.ensures c.if-not-field_at-2.false
 pub returns-then-not-field_at-3 : goal.returns-then-not-field_at-3
 unfolding head_formed
 returns-then-not-field_at-3 c =
-    let second = c.before.before in
     simp (
       frequency (goal.at.returns-then-not-field_at-3 c).Else-not-field_at,
       steps (goal.at.returns-then-not-field_at-3 c).Else-not-field_at-2,
@@ -46,8 +45,6 @@ reversion c = passed c.field_at-3.ensures c.if-not-field_at-3.false
 pub returns : goal.returns
 unfolding head_formed
 returns c =
-    let third = c.before in
-    let second = third.before.before in
     simp (
       frequency (goal.at.returns c).Else-not-field_at,
       steps (goal.at.returns c).Else-not-field_at-2,

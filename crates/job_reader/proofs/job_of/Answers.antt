@@ -30,13 +30,11 @@ data_from-figures-requires c = omega (arith, known (goal.at.data_from-figures-re
 
 pub data_from-flows-requires : goal.data_from-flows-requires
 data_from-flows-requires c =
-    let flows-at = c.before.before in
-    omega (arith, known (goal.at.data_from-flows-requires c).After-quotes_at-quotes_at, flows-at.after_fields-flows_at.ensures.0)
+    omega (arith, known (goal.at.data_from-flows-requires c).After-quotes_at-quotes_at, c.after_fields-flows_at.ensures.0)
 
 pub after_fields-requires : goal.after_fields-requires
 after_fields-requires c =
-    let flows-at = c.before.before.before in
-    omega (arith, known (goal.at.after_fields-requires c).After-quotes_at-quotes_at, flows-at.after_fields-flows_at.ensures.0)
+    omega (arith, known (goal.at.after_fields-requires c).After-quotes_at-quotes_at, c.after_fields-flows_at.ensures.0)
 
 -- the place of what follows the flows
 rest-place : (c : After-after_fields) → c.after_fields.result ≡ rest_at (quotes_at c.args.bytes.now) c.number-steps.result
@@ -71,16 +69,15 @@ number-requires-3 c = omega (arith, long (goal.at.number-requires-3 c).After-aft
 pub returns : goal.returns
 unfolding job_of
 returns c =
-    let rest-found = c.before in
     simp (
-      rest-found.tags_from-kinds.ensures,
-      rest-found.data_from-figures.ensures,
-      rest-found.data_from-flows.ensures,
+      c.tags_from-kinds.ensures,
+      c.data_from-figures.ensures,
+      c.data_from-flows.ensures,
       c.option_at-option.ensures,
       rest-place (goal.at.returns c).After-after_fields,
-      rest-found.after_fields-flows_at.ensures.0,
-      rest-found.quotes_at-quotes_at.ensures.0,
-      rest-found.number-steps.ensures.0,
+      c.after_fields-flows_at.ensures.0,
+      c.quotes_at-quotes_at.ensures.0,
+      c.number-steps.ensures.0,
       c.number.ensures.0,
       c.number-2.ensures.0,
       c.number-3.ensures.0,

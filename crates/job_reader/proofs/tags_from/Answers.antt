@@ -1,6 +1,6 @@
 use borrow.Author.Rules.{rules}
 use mathlib.Core.Path.{◌≡◌, ap}
-use Prim.Native.Nat.{ℕ, ◌-◌}
+use Prim.Native.Nat.{ℕ}
 use native.Mathlib.Omega.{arith}
 use lib.ListN.{get_or}
 use Rattle.arithmetic.proofs.RowLaws.{filled-start, filled_next}
@@ -9,7 +9,7 @@ use Rattle.job_record.proofs.Columns.{field-within}
 use Rattle.job_reader.proofs.tags_from.Goals as goal
 
 pub loop-i-init : goal.loop-i-init
-loop-i-init c = (omega arith, filled-start _ _)
+loop-i-init c = filled-start _ _
 
 pub bounds-bytes-after_fields : goal.bounds-bytes-after_fields
 bounds-bytes-after_fields c =
@@ -20,9 +20,9 @@ bounds-bytes-after_fields c =
 pub loop-i-preserved : goal.loop-i-preserved
 loop-i-preserved c =
     let read = ap (λ (place : ℕ). get_or c.args.bytes.now place 0) c.after_fields.ensures.0 in
-    (omega arith, filled_next c.loop-i.invariant.1 (search rules) read)
+    filled_next c.loop-i.invariant (search rules) read
 
 pub returns : goal.returns
 returns c =
     let end : c.loop-i.i ≡ c.args.count = omega arith in
-    filled-padded _ _ _ _ (rw end at c.loop-i.invariant.1)
+    filled-padded _ _ _ _ (rw end at c.loop-i.invariant)

@@ -17,28 +17,24 @@ size_is c = answers.answer-size _ _ c.sheet-written.result c.sheet-written.ensur
 
 pub returns-then-written-ne0 : goal.returns-then-written-ne0
 returns-then-written-ne0 c =
-    let made = c.before.before.before.before in
-    let a = made.args in
-    let printed = laws.refusal-printed a.job.now a.out.now _ _ _ (number_is (goal.at.returns-then-written-ne0 c).After-sheet-written) (size_is (goal.at.returns-then-written-ne0 c).After-sheet-written) made.sheet-written.ensures.memory
+    let a = c.args in
+    let printed =
+    laws.refusal-printed a.job.now a.out.now _ _ _ (number_is (goal.at.returns-then-written-ne0 c).After-sheet-written)
+    (size_is (goal.at.returns-then-written-ne0 c).After-sheet-written) c.sheet-written.ensures.memory
     c.if-written-ne0.true _ _ (c.refused_line.ensures.value, c.refused_line.ensures.out_after) in
     record { answer = printed.0; within = laws.start-within _ _ _ _ printed.0; memory = printed.1 }
 
-pub overflow_sub-start : goal.overflow_sub-start
-overflow_sub-start c =
-    let made = c in
-    let a = made.args in
-    laws.size-within a.job.now a.out.now _ _ _ (number_is (goal.at.overflow_sub-start c).After-sheet-written) (size_is (goal.at.overflow_sub-start c).After-sheet-written) made.sheet-written.ensures.memory c.if-written-ne0.false (search rules)
+pub overflow_sub-result : goal.overflow_sub-result
+overflow_sub-result c =
+    let a = c.args in
+    laws.size-within a.job.now a.out.now _ _ _ (number_is (goal.at.overflow_sub-result c).After-sheet-written)
+    (size_is (goal.at.overflow_sub-result c).After-sheet-written) c.sheet-written.ensures.memory c.if-written-ne0.false (search rules)
 
 pub returns : goal.returns
 returns c =
-    let made = c in
-    let a = made.args in
-    let printed = laws.sheet-printed a.job.now a.out.now _ _ _ (number_is (goal.at.returns c).After-sheet-written) (size_is (goal.at.returns c).After-sheet-written) made.sheet-written.ensures.memory c.if-written-ne0.false
+    let a = c.args in
+    let printed =
+    laws.sheet-printed a.job.now a.out.now _ _ _ (number_is (goal.at.returns c).After-sheet-written) (size_is (goal.at.returns c).After-sheet-written)
+    c.sheet-written.ensures.memory c.if-written-ne0.false
     (search rules) in
     record { answer = printed.0; within = laws.start-within _ _ _ _ printed.0; memory = printed.1 }
-
-pub sheet-written-requires : goal.sheet-written-requires
-sheet-written-requires c = tt
-
-pub refused_line-requires : goal.refused_line-requires
-refused_line-requires c = tt

@@ -12,7 +12,8 @@ returns-then-reading-ne0 c =
     let a = c.args in
     let read = c.read-reading in
     let refusing = c.if-reading-ne0.true in
-    let number = laws.number-refused a.job.now (length a.out.now) read.result read.ensures.reading refusing in clauses-answer-memory (answers.refused-by _ _ _ a.out.now _ refl number refusing)
+    let number = laws.number-refused a.job.now (length a.out.now) read.result read.ensures.reading refusing in
+    clauses-answer-memory (answers.refused-by _ _ _ a.out.now _ refl number refusing)
 
 pub returns : goal.returns
 returns c =
@@ -20,7 +21,8 @@ returns c =
     let if1 = c.if-reading-ne0 in
     let sheet-of-record = c.sheet_of_record in
     let a = c.args in
-    let read = read in clauses-answer-memory (answers.read_made a.job.now a.out.now read.result _ _ read.ensures.reading if1.false (sheet-of-record.ensures.answer, sheet-of-record.ensures.memory))
+    clauses-answer-memory
+    (answers.read_made a.job.now a.out.now read.result _ _ read.ensures.reading if1.false (sheet-of-record.ensures.answer, sheet-of-record.ensures.memory))
 
 pub read-reading-requires : goal.read-reading-requires
 read-reading-requires c = tt

@@ -1,6 +1,6 @@
 use native.Mathlib.Omega.{arith}
 use mathlib.Core.Path.{◌≡◌, sym, ap, ◌∙◌}
-use Prim.Native.Nat.{ℕ, ◌+◌, ◌-◌, max}
+use Prim.Native.Nat.{ℕ, ◌+◌, max}
 use lib.Dec.{eqb}
 use borrow.Author.Tests.{eq-eqb, ne_eqb}
 use Rattle.arithmetic.specs.Row.{values, each, between}
@@ -19,15 +19,11 @@ next f k top e =
     each-split k 1 (between 0 0 f) ∙ rw (e, ne_eqb top 0 n) (sym (ne_eqb (max top (f k)) 0 (λ z. n (omega arith))))))
     (λ h. each-fails (k + 1) k (between 0 0 f) (omega arith) (between-above 0 0 f k h) ∙ sym (ne_eqb (max top (f k)) 0 (λ z. omega arith)))
 
-pub loop-k-init : goal.loop-k-init
-loop-k-init c = (omega arith, each_none _)
+pub loop-byte-init : goal.loop-byte-init
+loop-byte-init c = each_none _
 
-pub loop-k-preserved : goal.loop-k-preserved
-loop-k-preserved c =
-    let loop = c.loop-k in
-    (omega arith, rw c.larger_byte-top.ensures (next (values c.args.bytes.now) loop.k loop.top loop.invariant.1))
+pub loop-byte-preserved : goal.loop-byte-preserved
+loop-byte-preserved c = rw c.max-top.ensures (next (values c.args.bytes.now) c.loop-byte.byte-index c.loop-byte.top c.loop-byte.invariant)
 
 pub returns : goal.returns
-returns c =
-    let loop = c.loop-k in
-    sym (ap (λ (k : ℕ). each k (between 0 0 (values c.args.bytes.now))) (omega arith) ∙ loop.invariant.1)
+returns c = sym (ap (λ (k : ℕ). each k (between 0 0 (values c.args.bytes.now))) (omega arith) ∙ c.loop-byte.invariant)

@@ -1,21 +1,13 @@
-use native.Mathlib.Omega.{arith}
-use mathlib.Core.Bool.{true}
-use mathlib.Core.Path.{◌≡◌, sym}
-use Prim.Native.Nat.{◌-◌}
-use Rattle.job_record.proofs.Answers.{passed, failed}
-use Rattle.writer_laws.proofs.SoundTests.{kinds-none, kinds-more, kinds-fails}
+use Rattle.std.proofs.Common.{◌≡◌, true, false, rules}
+use Rattle.std.proofs.lemmas.Iterator.{cases_from_all, YieldsList-from_slice}
+use Rattle.job_record.specs.Form.{is_kind}
+use Rattle.job_record.proofs.Tests.{each-by_front}
+use Rattle.writer_laws.specs.Sound.{are_kinds}
 use Rattle.job_soundness.proofs.are_kinds.Goals as goal
 
-pub loop-k-init : goal.loop-k-init
-loop-k-init c = (omega arith, kinds-none _)
-
-pub returns-then-not-is_kind : goal.returns-then-not-is_kind
-returns-then-not-is_kind c = sym (kinds-fails _ _ _ (omega arith) (failed c.is_kind.ensures c.if-not-is_kind.true))
-
-pub loop-k-preserved : goal.loop-k-preserved
-loop-k-preserved c = (omega arith, kinds-more _ _ c.loop-k.invariant.1 (passed c.is_kind.ensures c.if-not-is_kind.false))
-
 pub returns : goal.returns
+unfolding are_kinds
 returns c =
-    let end : c.loop-k.k ≡ c.args.count = omega arith in
-    sym (rw end at c.loop-k.invariant.1)
+    each-by_front c.args.count c.args.kinds.now is_kind c.all.result c.requires
+    (cases_from_all _ _ _ (λ x. is_kind x ≡ true) (λ x. is_kind x ≡ false) c.all.ensures.ran (YieldsList-from_slice _ cc)
+    (λ x q k. search rules) (λ x q k. search rules))

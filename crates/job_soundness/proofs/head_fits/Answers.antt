@@ -13,7 +13,8 @@ returns-then-steps-gt-MOST_STEPS c = simp (le-leb _ _ c.if-frequency-gt-MOST_IN_
 
 pub returns-then-reversion-gt-MOST_IN_TWO : goal.returns-then-reversion-gt-MOST_IN_TWO
 unfolding head_fits
-returns-then-reversion-gt-MOST_IN_TWO c = simp (le-leb _ _ c.if-frequency-gt-MOST_IN_ONE.false, le-leb _ _ c.if-steps-gt-MOST_STEPS.false, lt-leb _ _ c.if-reversion-gt-MOST_IN_TWO.true)
+returns-then-reversion-gt-MOST_IN_TWO c =
+    simp (le-leb _ _ c.if-frequency-gt-MOST_IN_ONE.false, le-leb _ _ c.if-steps-gt-MOST_STEPS.false, lt-leb _ _ c.if-reversion-gt-MOST_IN_TWO.true)
 
 pub returns-then-volatility-gt-MOST_IN_FOUR : goal.returns-then-volatility-gt-MOST_IN_FOUR
 unfolding head_fits

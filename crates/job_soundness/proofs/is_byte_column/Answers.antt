@@ -7,4 +7,4 @@ use Rattle.job_soundness.proofs.is_byte_column.Goals as goal
 pub returns : goal.returns
 returns c =
     let a = c.args in
-    c.all_zero.ensures ∙ column-by-type a.column.now a.count (most_in 1) (λ k. omega (arith, c.shared_slice_known-1.given k))
+    c.all_zero.ensures ∙ column-by-type a.column.now a.count (most_in 1) (λ k. omega (arith, c.type_inv.column k))

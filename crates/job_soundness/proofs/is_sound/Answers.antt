@@ -25,17 +25,17 @@ fitting : (c : Else-not-head_fits) → head c.args.job ≡ true
 fitting c = passed c.head_fits.ensures c.if-not-head_fits.false
 
 pub are_columns-requires : goal.are_columns-requires
-are_columns-requires c =
-    let fits = c.before.before.before.before.before.before in
-    let s = fits.before.before in
-    (steps-few _ _ _ _ (fitting (goal.at.are_columns-requires c).Else-not-head_fits), kinds-long (goal.at.are_columns-requires c).Start, figures-long (goal.at.are_columns-requires c).Start, flows_long (goal.at.are_columns-requires c).Start)
+are_columns-requires c = (
+  steps-few _ _ _ _ (fitting (goal.at.are_columns-requires c).Else-not-head_fits),
+  kinds-long (goal.at.are_columns-requires c).Start,
+  figures-long (goal.at.are_columns-requires c).Start,
+  flows_long (goal.at.are_columns-requires c).Start,
+)
 
 pub returns-then-not-are_columns : goal.returns-then-not-are_columns
 returns-then-not-are_columns c =
-    let fits = c.before.before.before.before.before.before.before.before in
     job-columns _ (fitting (goal.at.returns-then-not-are_columns c).Else-not-head_fits) (failed c.are_columns.ensures c.if-not-are_columns.true)
 
 pub returns : goal.returns
 returns c =
-    let fits = c.before.before.before.before.before.before.before in
     c.is_sound_option.ensures ∙ job-by-option _ (fitting (goal.at.returns c).Else-not-head_fits) (passed c.are_columns.ensures c.if-not-are_columns.false)

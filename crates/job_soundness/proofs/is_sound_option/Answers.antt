@@ -20,15 +20,14 @@ fitting : (c : Else-not-option_fits) → fits c.args.option ≡ true
 fitting c = passed c.option_fits.ensures c.if-not-option_fits.false
 
 pub returns-then-not-option_belongs : goal.returns-then-not-option_belongs
-returns-then-not-option_belongs c = option-alien _ (fitting (goal.at.returns-then-not-option_belongs c).Else-not-option_fits) (failed c.option_belongs.ensures c.if-not-option_belongs.true)
+returns-then-not-option_belongs c =
+    option-alien _ (fitting (goal.at.returns-then-not-option_belongs c).Else-not-option_fits) (failed c.option_belongs.ensures c.if-not-option_belongs.true)
 
 pub is_byte_column-requires : goal.is_byte_column-requires
 is_byte_column-requires c =
-    let fit = c.before.before.before.before in
     omega (arith, dates-long (goal.at.is_byte_column-requires c).Start, dates-few _ _ _ _ (fitting (goal.at.is_byte_column-requires c).Else-not-option_fits))
 
 pub returns : goal.returns
 returns c =
-    let fit = c.before.before in
     column-here _ _ _ _ (dates-long (goal.at.returns c).Start) c.is_byte_column.ensures
     ∙ option-by-dates _ (fitting (goal.at.returns c).Else-not-option_fits) (passed c.option_belongs.ensures c.if-not-option_belongs.false)

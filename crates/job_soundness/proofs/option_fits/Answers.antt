@@ -12,7 +12,8 @@ returns-then-expiry-gt-MOST_IN_ONE c = simp (le-leb _ _ c.if-kind-gt-MOST_IN_ONE
 
 pub returns-then-strike-gt-MOST_IN_FOUR : goal.returns-then-strike-gt-MOST_IN_FOUR
 unfolding option_fits
-returns-then-strike-gt-MOST_IN_FOUR c = simp (le-leb _ _ c.if-kind-gt-MOST_IN_ONE.false, le-leb _ _ c.if-expiry-gt-MOST_IN_ONE.false, lt-leb _ _ c.if-strike-gt-MOST_IN_FOUR.true)
+returns-then-strike-gt-MOST_IN_FOUR c =
+    simp (le-leb _ _ c.if-kind-gt-MOST_IN_ONE.false, le-leb _ _ c.if-expiry-gt-MOST_IN_ONE.false, lt-leb _ _ c.if-strike-gt-MOST_IN_FOUR.true)
 
 pub returns : goal.returns
 unfolding option_fits

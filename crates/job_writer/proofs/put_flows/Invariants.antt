@@ -1,13 +1,8 @@
 use mathlib.Core.Path.{◌≡◌}
-use Prim.Native.Nat.{◌-◌, ◌≤◌}
-use lib.ListN.{length}
 use Rattle.arithmetic.specs.Row.{place}
 use Rattle.job_record.specs.Grammar.{joined}
 use Rattle.writer_laws.specs.inside.Parts.{flow_of}
 use Rattle.job_writer.proofs.put_flows.Given as goal
 
 abbrev pub invariant-loop-i : goal.invariant-loop-i
-invariant-loop-i l = (l.i ≤ l.count) × (length l.out ≡ length l.initial.out) × (l.out ≡ place l.initial.out l.from (joined l.i (flow_of l.flows)))
-
-abbrev pub decreases-loop-i : goal.decreases-loop-i
-decreases-loop-i l = l.count - l.i
+invariant-loop-i l = l.out ≡ place l.initial.out l.from (joined l.i (flow_of l.flows))

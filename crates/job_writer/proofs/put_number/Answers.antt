@@ -1,22 +1,20 @@
-use mathlib.Core.Path.{refl, ◌∙◌}
-use native.Mathlib.Omega.{arith}
-use lib.ListN.{length-set}
+use Rattle.std.proofs.Common.{arith, ◌≡◌, ◌∙◌, ◌+◌, ◌-◌, ℕ}
 use Rattle.writer_laws.proofs.PutLaws.{number-none, number-last}
 use Rattle.job_writer.proofs.put_number.Goals as goal
 
-pub loop-left-init : goal.loop-left-init
-loop-left-init c = (omega arith, refl, refl)
+pub loop-place-init : goal.loop-place-init
+loop-place-init c = let e : c.args.at + c.args.width - c.args.at ≡ c.args.width = omega arith in (omega arith, rw e)
 
-pub loop-left-preserved : goal.loop-left-preserved
-loop-left-preserved c =
-    let loop = c.loop-left in (
-      omega arith,
-      length-set loop.out _ _ ∙ loop.invariant.1,
-      number-last loop.out _ _ _ c.loop-left-test.true (omega (arith, c.requires.1, loop.invariant.0, loop.invariant.1)) ∙ loop.invariant.2,
-    )
-
-pub shape_of-out : goal.shape_of-out
-shape_of-out c = c.loop-left.invariant.1
+pub loop-place-preserved : goal.loop-place-preserved
+loop-place-preserved c =
+    let loop = c.loop-place in
+    let at = c.args.at in
+    let left : ℕ = loop.place - at in
+    let here : loop.place - 1 ≡ at + (left - 1) = omega arith in
+    let less : at + (left - 1) - at ≡ left - 1 = omega arith in
+    (omega arith, rw (here, less) (number-last loop.out at left loop.rest (omega arith) (omega arith) ∙ loop.invariant.1))
 
 pub returns : goal.returns
-returns c = let loop = c.loop-left in number-none loop.out _ _ _ c.loop-left-test.false ∙ loop.invariant.2
+returns c =
+    let loop = c.loop-place in
+    number-none loop.out c.args.at (loop.place - c.args.at) loop.rest (omega arith) ∙ loop.invariant.1

@@ -1,5 +1,4 @@
 use mathlib.Core.Path.{◌≡◌, sym, ◌∙◌}
-use Prim.Native.Nat.{◌-◌}
 use native.Mathlib.Omega.{arith}
 use lib.ListN.{length}
 use Rattle.lending.specs.Lending.{band_index}
@@ -12,16 +11,14 @@ loop-k-init c = searched-start (omega arith)
 pub returns-then-is_within : goal.returns-then-is_within
 unfolding band_index
 returns-then-is_within c =
-    let loop = c.loop-k in
-    searched-found loop.k loop.invariant (omega arith) (sym c.is_within.ensures ∙ c.if-is_within.true)
+    searched-found c.loop-k.k c.loop-k.invariant (omega arith) (sym c.is_within.ensures ∙ c.if-is_within.true)
 
 pub loop-k-preserved : goal.loop-k-preserved
 loop-k-preserved c =
-    let loop = c.loop-k in
-    searched-more loop.k loop.invariant (omega arith) (sym c.is_within.ensures ∙ c.if-is_within.false)
+    searched-more c.loop-k.k c.loop-k.invariant (omega arith) (sym c.is_within.ensures ∙ c.if-is_within.false)
 
 pub returns : goal.returns
 unfolding band_index
 returns c =
     let end : c.loop-k.k ≡ length c.args.firsts.now = omega (arith, c.loop-k.invariant.most) in
-    end ∙ searched-none (rw end at c.loop-k.invariant)
+    searched-none (rw end at c.loop-k.invariant)

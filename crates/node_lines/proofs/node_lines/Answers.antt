@@ -1,32 +1,28 @@
-use mathlib.Core.Path.{◌≡◌, sym, ◌∙◌}
+use mathlib.Core.Path.{sym}
 use Prim.Native.Nat.{◌-◌}
 use lib.ListN.{length}
-use Rattle.node_lines.specs.Reading.{read_number}
+use Rattle.std.proofs.lemmas.Result.{err_from_is_err_and}
+use Rattle.arithmetic.proofs.RefusalLaws.{refusal-some}
 use Rattle.node_lines.proofs.ReadingLaws.{read_known, drawn-refused, drawn-answered}
 use Rattle.node_lines.proofs.node_lines.Goals as goal
-use Rattle.node_lines.proofs.node_lines.Goals.{Else-number-ne0}
 
 clauses-answer-memory : {A B : Type 0} → A × B → record { answer : A; memory : B }
 clauses-answer-memory w = record { answer = w.0; memory = w.1 }
 
-pub returns-then-number-ne0 : goal.returns-then-number-ne0
-returns-then-number-ne0 c =
+pub returns-in_err-row_cause : goal.returns-in_err-row_cause
+returns-in_err-row_cause c =
+    let p = err_from_is_err_and c.from_residual.result c.from_residual.ensures.1 in
     let a = c.args in
-    let found = c.row_number-number in clauses-answer-memory (drawn-refused _ a.out.now a.end _ (a.next - a.count) found.result found.ensures c.if-number-ne0.true)
-
--- where there is no cause
-accepted : (c : Else-number-ne0) → let a = c.args in
-    read_number (length a.out.now) a.end a.row a.discounts.now a.next a.count ≡ 0
-accepted c = sym c.row_number-number.ensures ∙ c.if-number-ne0.false
+    rw (p.1, p.2)
+    (clauses-answer-memory (drawn-refused _ a.out.now a.end _ (a.next - a.count) _ c.in_err-row_cause.ensures (refusal-some _)))
 
 pub put_row_nodes-requires : goal.put_row_nodes-requires
 put_row_nodes-requires c =
-    let e = c.before in
-    let a = e.args in
-    read_known (length a.out.now) a.end a.row a.discounts.now a.next a.count (accepted (goal.at.put_row_nodes-requires c).Else-number-ne0)
+    let a = c.args in
+    read_known (length a.out.now) a.end a.row a.discounts.now a.next a.count (sym c.in_ok-row_cause.ensures)
 
 pub returns : goal.returns
 returns c =
-    let e = c.before.before.before.before in
-    let a = e.args in
-    let drawn = c.put_row_nodes.ensures in clauses-answer-memory (drawn-answered _ a.out.now a.end _ (a.next - a.count) (accepted (goal.at.returns c).Else-number-ne0) drawn.answer drawn.memory)
+    let a = c.args in
+    let drawn = c.put_row_nodes.ensures in
+    clauses-answer-memory (drawn-answered _ a.out.now a.end _ (a.next - a.count) (sym c.in_ok-row_cause.ensures) drawn.answer drawn.memory)

@@ -1,49 +1,56 @@
 use mathlib.Core.Path.{◌∙◌}
 use native.Mathlib.Omega.{arith}
+use Rattle.lattice.proofs.TreeEntries.{row-ok}
 use Rattle.pricing.proofs.EntryLaws.{prefix-room, prefix-is, prefix-length}
 use Rattle.pair_laws.proofs.EntryLaws.{bond-above, bond-given}
 use Rattle.pair_pricing.proofs.accepted_bond.Goals as goal
 
+pub unwrap-rate_nodes-requires : goal.unwrap-rate_nodes-requires
+unwrap-rate_nodes-requires c =
+    let a = c.requires.trees.rate-tree in
+    row-ok _ _ _ _ c.node_count.ensures a.limits.reversion-within-limit a.limits.steps-within-limit
+
+pub unwrap-spread_nodes-requires : goal.unwrap-spread_nodes-requires
+unwrap-spread_nodes-requires c =
+    let a = c.requires.trees.spread-tree in
+    row-ok _ _ _ _ c.node_count-2.ensures a.limits.reversion-within-limit a.limits.steps-within-limit
+
 pub slice_bounds-rate_table-end : goal.slice_bounds-rate_table-end
 slice_bounds-rate_table-end c =
-    let table_of = c.table_of-rate_table in
-    let node-count = c.node_count-rate_nodes in
     let a = c.requires.trees.rate-tree in
-    prefix-room _ _ a.limits.steps-within-limit a.limits.reversion-within-limit _ _ node-count.ensures table_of.ensures
+    prefix-room _ _ a.limits.steps-within-limit a.limits.reversion-within-limit _ _ (rw c.unwrap-rate_nodes.ensures at c.node_count.ensures)
+    c.table_of-rate_table.ensures
 
 pub slice_bounds-roll_bond-end : goal.slice_bounds-roll_bond-end
 slice_bounds-roll_bond-end c =
-    let table_of = c.table_of-rate_table in
-    let node-count = c.node_count-rate_nodes in
     let a = c.requires.trees.rate-tree in
-    prefix-length _ _ (prefix-room _ _ a.limits.steps-within-limit a.limits.reversion-within-limit _ _ node-count.ensures table_of.ensures)
+    prefix-length _ _
+    (prefix-room _ _ a.limits.steps-within-limit a.limits.reversion-within-limit _ _ (rw c.unwrap-rate_nodes.ensures at c.node_count.ensures)
+    c.table_of-rate_table.ensures)
 
 pub slice_bounds-spread_table-end : goal.slice_bounds-spread_table-end
 slice_bounds-spread_table-end c =
-    let table-of2 = c.table_of-spread_table in
-    let node-count2 = c.node_count-spread_nodes in
     let a = c.requires.trees.spread-tree in
-    prefix-room _ _ a.limits.steps-within-limit a.limits.reversion-within-limit _ _ node-count2.ensures table-of2.ensures
+    prefix-room _ _ a.limits.steps-within-limit a.limits.reversion-within-limit _ _ (rw c.unwrap-spread_nodes.ensures at c.node_count-2.ensures)
+    c.table_of-spread_table.ensures
 
 pub slice_bounds-roll_bond-end-2 : goal.slice_bounds-roll_bond-end-2
 slice_bounds-roll_bond-end-2 c =
-    let table-of2 = c.table_of-spread_table in
-    let node-count2 = c.node_count-spread_nodes in
     let a = c.requires.trees.spread-tree in
-    prefix-length _ _ (prefix-room _ _ a.limits.steps-within-limit a.limits.reversion-within-limit _ _ node-count2.ensures table-of2.ensures)
+    prefix-length _ _
+    (prefix-room _ _ a.limits.steps-within-limit a.limits.reversion-within-limit _ _ (rw c.unwrap-spread_nodes.ensures at c.node_count-2.ensures)
+    c.table_of-spread_table.ensures)
 
 pub roll_bond-number-requires : goal.roll_bond-number-requires
 roll_bond-number-requires c =
-    let table-of2 = c.table_of-spread_table in
-    let node-count2 = c.node_count-spread_nodes in
-    let table_of = c.table_of-rate_table in
-    let node-count = c.node_count-rate_nodes in
     let r = c.requires.trees.rate-tree in
     let q = c.requires.trees.spread-tree in (
       c.requires,
       record {
-        rate-table = prefix-is _ _ r.limits.steps-within-limit r.limits.reversion-within-limit _ _ node-count.ensures table_of.ensures;
-        spread-table = prefix-is _ _ q.limits.steps-within-limit q.limits.reversion-within-limit _ _ node-count2.ensures table-of2.ensures;
+        rate-table = prefix-is _ _ r.limits.steps-within-limit r.limits.reversion-within-limit _ _ (rw c.unwrap-rate_nodes.ensures at c.node_count.ensures)
+            c.table_of-rate_table.ensures;
+        spread-table = prefix-is _ _ q.limits.steps-within-limit q.limits.reversion-within-limit _ _ (rw c.unwrap-spread_nodes.ensures at c.node_count-2.ensures)
+            c.table_of-spread_table.ensures;
       },
       omega arith,
     )

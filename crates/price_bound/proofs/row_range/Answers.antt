@@ -1,25 +1,15 @@
-use mathlib.Core.Path.{refl}
-use Prim.Native.Nat.{◌+◌, ◌≤◌}
-use native.Mathlib.Omega.{arith}
-use lib.ListN.{length}
-use Rattle.price_bound.proofs.BoundLaws.{part_room, greatest-part, judged-part}
+use Rattle.std.proofs.Common.{refl, arith}
+use Rattle.price_bound.proofs.BoundLaws.{part_room, part-ranged}
 use Rattle.price_bound.proofs.row_range.Goals as goal
-use Rattle.price_bound.proofs.row_range.Goals.{After-struct_known-1}
-
--- the row's part is within the discounts
-room : (c : After-struct_known-1) → c.row_shape-shape.result.start + c.row_shape-shape.result.count ≤ length
-    c.args.discounts.now
-room c = part_room _ _ _ _ c.requires.0 c.requires.1 _ c.row_shape-shape.ensures
 
 pub overflow_add-end : goal.overflow_add-end
-overflow_add-end c = omega (arith, room c)
+overflow_add-end c = omega (arith, part_room _ _ _ _ c.requires.0 c.requires.1 _ c.row_shape-shape.ensures)
 
 pub offset_bounds-discounts-start : goal.offset_bounds-discounts-start
-offset_bounds-discounts-start c = omega (arith, room c)
+offset_bounds-discounts-start c = omega (arith, part_room _ _ _ _ c.requires.0 c.requires.1 _ c.row_shape-shape.ensures)
 
 pub slice_bounds-range_of-end : goal.slice_bounds-range_of-end
-slice_bounds-range_of-end c = room c
+slice_bounds-range_of-end c = part_room _ _ _ _ c.requires.0 c.requires.1 _ c.row_shape-shape.ensures
 
 pub returns : goal.returns
-returns c =
-    let e = c.row_shape-shape.ensures in record { within = judged-part _ _ _ _ c.requires.0 c.requires.1 _ e _ _ refl c.range_of.ensures.within; greatest = λ t. greatest-part _ _ _ _ c.requires.0 c.requires.1 _ e _ _ refl (c.range_of.ensures.greatest t) }
+returns c = part-ranged _ _ _ _ c.requires.0 c.requires.1 _ c.row_shape-shape.ensures _ refl _ c.range_of.ensures

@@ -1,38 +1,27 @@
-use mathlib.Core.Path.{◌≡◌, refl, sym, ◌∙◌}
-use Prim.Native.Nat.{ℕ}
-use Rattle.lent_tree.specs.LentTree.{Accepted, discounts_cause}
+use mathlib.Core.Path.{refl, sym, ◌∙◌}
+use Rattle.std.proofs.lemmas.Result.{err_from_is_err_and}
+use Rattle.arithmetic.proofs.RefusalLaws.{refusal-some}
 use Rattle.lent_tree.proofs.LentLaws.{lent, accepted}
 use Rattle.price_bound.proofs.BoundLaws.{rows-bounded, bound-is, room-refused, range-refused, range-accepted, bounds-given}
-use borrow.Author.Tests.{not-true, not-false}
 use Rattle.price_bound.proofs.tree_bounds.Goals as goal
-use Rattle.price_bound.proofs.tree_bounds.Goals.{Else-not-range}
 
-pub returns-then-cause-ne0 : goal.returns-then-cause-ne0
-returns-then-cause-ne0 c = room-refused _ _ _ _ c.room_cause-cause.ensures _ c.if-cause-ne0.true c.refused_bounds.ensures
+pub returns-in_err-room_cause : goal.returns-in_err-room_cause
+returns-in_err-room_cause c =
+    let p = err_from_is_err_and c.from_residual.result c.from_residual.ensures.1 in
+    rw (p.1, p.2) (room-refused _ _ _ _ c.in_err-room_cause.ensures _ (refusal-some _) refl)
 
-pub tree_range-range-requires : goal.tree_range-range-requires
-tree_range-range-requires c = lent _ _ _ (sym c.room_cause-cause.ensures ∙ c.if-cause-ne0.false)
+pub tree_range-requires : goal.tree_range-requires
+tree_range-requires c = lent _ _ _ (sym c.in_ok-room_cause.ensures)
 
-pub returns-then-not-range : goal.returns-then-not-range
-returns-then-not-range c =
-    range-refused _ _ _ _ c.room_cause-cause.ensures c.if-cause-ne0.false _
-    c.tree_range-range.ensures.within _ (not-true _ c.if-not-range.true) c.refused_bounds-then-not-range.ensures
-
--- where the discounts have been judged
-none : (c : Else-not-range) → let a = c.args in ◌≡◌ {A = ℕ} 0
-    (discounts_cause a.steps a.reversion a.discounts.now)
-none c = range-accepted _ _ _ _ c.room_cause-cause.ensures c.if-cause-ne0.false _
-    c.tree_range-range.ensures.within (not-false _ c.if-not-range.false)
-
-tree : (c : Else-not-range) → let a = c.args in Accepted a.steps a.reversion a.discounts.now
-tree c = accepted _ _ _ (sym (none c))
+pub returns-in_default : goal.returns-in_default
+returns-in_default c = range-refused _ _ _ _ c.in_ok-room_cause.ensures refl _ refl _ c.in_default.ensures refl
 
 pub error_bound-requires : goal.error_bound-requires
 error_bound-requires c =
-    rows-bounded _ _ _ (tree (goal.at.error_bound-requires c).Else-not-range) _ (c.tree_range-range.ensures.greatest (not-false _ c.if-not-range.false))
+    rows-bounded _ _ _ (accepted _ _ _ (sym (range-accepted _ _ _ _ c.in_ok-room_cause.ensures refl _ refl c.in-Some.ensures.0))) _
+    c.in-Some.ensures.1
 
 pub returns : goal.returns
 returns c =
-    let judged = c.before.before in
-    let rows = c.tree_range-range.ensures.greatest (not-false _ c.if-not-range.false) in
-    bounds-given _ _ _ 0 (none (goal.at.returns c).Else-not-range) refl _ _ (c.error_bound.ensures ∙ bound-is _ _ _ (tree (goal.at.returns c).Else-not-range) _ rows) rows
+    let none = range-accepted _ _ _ _ c.in_ok-room_cause.ensures refl _ refl c.in-Some.ensures.0 in
+    bounds-given _ _ _ 0 none refl _ _ (c.error_bound.ensures ∙ bound-is _ _ _ (accepted _ _ _ (sym none)) _ c.in-Some.ensures.1) c.in-Some.ensures.1

@@ -1,21 +1,13 @@
-use mathlib.Core.Path.{◌≡◌, sym, ◌∙◌}
-use mathlib.Core.Bool.{true}
-use Prim.Native.Nat.{ℕ, ◌-◌}
-use native.Mathlib.Omega.{arith}
+use Rattle.std.proofs.Common.{◌≡◌, sym, refl, arith}
 use Rattle.arithmetic.proofs.RowLaws.{filled-start, filled_next, each_none, each_more}
 use Rattle.price_bound.proofs.BoundLaws.{rows-filled, rows-refused, rows-accepted}
-use borrow.Author.Tests.{not-true, not-false}
 use Rattle.price_bound.proofs.tree_range.Goals as goal
 
 pub loop-row-init : goal.loop-row-init
-loop-row-init c = (omega arith, each_none _, rw c.no_rows-rows.ensures (filled-start _ _))
+loop-row-init c = (each_none _, rw c.no_rows-rows.ensures (filled-start _ _))
 
-pub row_range-range-requires : goal.row_range-range-requires
-row_range-range-requires c = (c.requires, omega arith)
-
-pub returns-then-not-range : goal.returns-then-not-range
-returns-then-not-range c =
-    record { within = c.refused_tree.ensures ∙ rows-refused _ _ _ c.loop-row.row _ c.loop-row-test.true c.row_range-range.ensures.within (not-true _ c.if-not-range.true); greatest = λ e. let refused = c.refused_tree.ensures in let none : ◌≡◌ {A = ℕ} 0 1 = cc in absurd (omega arith) }
+pub row_range-requires : goal.row_range-requires
+row_range-requires c = (c.requires, omega arith)
 
 pub offset_bounds-rows-row : goal.offset_bounds-rows-row
 offset_bounds-rows-row c = omega (arith, c.requires.limits.steps-within-limit)
@@ -23,22 +15,17 @@ offset_bounds-rows-row c = omega (arith, c.requires.limits.steps-within-limit)
 pub bounds-rows-row : goal.bounds-rows-row
 bounds-rows-row c = omega (arith, c.requires.limits.steps-within-limit)
 
-pub overflow_add-row : goal.overflow_add-row
-overflow_add-row c = omega (arith, c.requires.limits.steps-within-limit)
-
-pub loop-row-preserved : goal.loop-row-preserved
-loop-row-preserved c =
-    let l = c.loop-row in
-    let ranged = c.row_range-range in
-    let within = not-false _ c.if-not-range.false in (
-      omega (arith, c.loop-row-test.true),
-      each_more _ _ l.invariant.1 (sym ranged.ensures.within ∙ within),
-      filled_next l.invariant.2 (omega (arith, c.requires.limits.steps-within-limit))
-          (ranged.ensures.greatest within),
-    )
-
 pub returns : goal.returns
 returns c =
-    let l = c.loop-row in
-    let end : l.row ≡ c.args.steps = omega arith in
-    record { within = rows-accepted _ _ _ l.row end l.invariant.1; greatest = λ e. rows-filled _ _ _ _ (rw end at l.invariant.2) }
+    let end : c.loop-row.row ≡ c.args.steps = omega arith in
+    (sym (rows-accepted _ _ _ c.loop-row.row end c.loop-row.invariant.0), rows-filled _ _ _ _ (rw end at c.loop-row.invariant.1))
+
+pub returns-in_err-rows : goal.returns-in_err-rows
+returns-in_err-rows c =
+    rw c.from_residual.ensures (sym (rows-refused _ _ _ c.loop-row.row _ (omega arith) refl c.in_err-rows.ensures))
+
+pub loop-row-preserved : goal.loop-row-preserved
+loop-row-preserved c = (
+  each_more _ _ c.loop-row.invariant.0 c.in_ok-rows.ensures.0,
+  filled_next c.loop-row.invariant.1 (omega (arith, c.requires.limits.steps-within-limit)) c.in_ok-rows.ensures.1,
+)

@@ -1,7 +1,4 @@
-use mathlib.Core.Path.{◌≡◌}
-use mathlib.Core.Bool.{true}
-use Prim.Native.Nat.{◌-◌, ◌≤◌}
-use lib.ListN.{replicate}
+use Rattle.std.proofs.Common.{◌≡◌, true, replicate}
 use Rattle.arithmetic.specs.Row.{each}
 use Rattle.arithmetic.proofs.RowLaws.{Filled}
 use Rattle.limits.specs.Limits.{most_steps}
@@ -13,8 +10,5 @@ use Rattle.price_bound.proofs.tree_range.Given as goal
 
 abbrev pub invariant-loop-row : goal.invariant-loop-row
 invariant-loop-row l =
-    (l.row ≤ l.steps) × (each l.row (row_accepted l.reversion l.discounts) ≡ true)
+    (each l.row (row_accepted l.reversion l.discounts) ≡ true)
     × Filled (replicate most_steps 0) l.rows (greatest_discount (rate_tree l.reversion) (stored l.reversion l.discounts)) l.row
-
-abbrev pub decreases-loop-row : goal.decreases-loop-row
-decreases-loop-row l = l.steps - l.row

@@ -4,6 +4,7 @@ use lib.ListN.{length, take}
 use Rattle.lent_tree.specs.LentTree.{Accepted}
 use Rattle.price_laws.proofs.Accuracy.{tree_lent, tree-paid}
 use Rattle.pricing.specs.inside.Trees.{Ready}
+use Rattle.lattice.proofs.TreeEntries.{row-ok}
 use Rattle.pricing.proofs.EntryLaws.{prefix-room, prefix-is, prefix-length}
 use Rattle.pricing.proofs.accepted_strip.Goals as goal
 use Rattle.pricing.proofs.accepted_strip.Goals.{After-table_of-table, Start}
@@ -12,25 +13,30 @@ use Rattle.pricing.proofs.accepted_strip.Goals.{After-table_of-table, Start}
 tree : (s : Start) → Accepted s.args.tree.steps s.args.tree.reversion s.args.discounts.now
 tree s = tree_lent _ _ _ _ s.requires.0
 
+pub unwrap-nodes-requires : goal.unwrap-nodes-requires
+unwrap-nodes-requires c =
+    let t = tree (goal.at.unwrap-nodes-requires c).Start in
+    row-ok _ _ _ _ c.node_count.ensures t.limits.reversion-within-limit t.limits.steps-within-limit
+
 pub table_of-table-requires : goal.table_of-table-requires
 table_of-table-requires c =
     let t = tree (goal.at.table_of-table-requires c).Start in
     (t.limits.steps-within-limit, t.limits.reversion-within-limit)
 
 -- the table that is lent on
-room : (c : After-table_of-table) → c.node_count-nodes.result.value ≤ length c.table_of-table.result
+room : (c : After-table_of-table) → c.unwrap-nodes.result ≤ length c.table_of-table.result
 room c =
     let t = tree (goal.at.After-table_of-table c).Start in
-    prefix-room _ _ t.limits.steps-within-limit t.limits.reversion-within-limit _ _ c.node_count-nodes.ensures c.table_of-table.ensures
+    prefix-room _ _ t.limits.steps-within-limit t.limits.reversion-within-limit _ _ (rw c.unwrap-nodes.ensures at c.node_count.ensures) c.table_of-table.ensures
 
 ready : (c : After-table_of-table) → let a = c.args in
-    Ready a.tree.steps a.tree.reversion (take c.node_count-nodes.result.value c.table_of-table.result) a.discounts.now a.flows.now
+    Ready a.tree.steps a.tree.reversion (take c.unwrap-nodes.result c.table_of-table.result) a.discounts.now a.flows.now
 ready c =
     let t = tree (goal.at.After-table_of-table c).Start in
     record {
       tree = t;
       paid = tree-paid _ _ _ _ c.requires.0;
-      table = prefix-is _ _ t.limits.steps-within-limit t.limits.reversion-within-limit _ _ c.node_count-nodes.ensures c.table_of-table.ensures;
+      table = prefix-is _ _ t.limits.steps-within-limit t.limits.reversion-within-limit _ _ (rw c.unwrap-nodes.ensures at c.node_count.ensures) c.table_of-table.ensures;
     }
 
 pub slice_bounds-table-end : goal.slice_bounds-table-end

@@ -8,11 +8,13 @@ use Rattle.price_laws.proofs.StripLaws.{strip-few, strip-refused, strip-given}
 use Rattle.pricing.proofs.refused_kind.Goals as goal
 
 -- the first of the two causes in every place
-by_first : (count found cause : ℕ) → (found ≡ 0 → ⊥) → strip_of count (λ k. refused_price found) ≡ strip_of count (λ k. refused_price (first_cause found cause))
+by_first : (count found cause : ℕ) → (found ≡ 0 → ⊥) →
+    strip_of count (λ k. refused_price found) ≡ strip_of count (λ k. refused_price (first_cause found cause))
 unfolding first_cause
 by_first count found cause z = rw (ne_eqb found 0 z)
 
-by-later : (count found cause : ℕ) → found ≡ 0 → strip_of count (λ k. refused_price cause) ≡ strip_of count (λ k. refused_price (first_cause found cause))
+by-later : (count found cause : ℕ) → found ≡ 0 →
+    strip_of count (λ k. refused_price cause) ≡ strip_of count (λ k. refused_price (first_cause found cause))
 unfolding first_cause
 by-later count found cause z = rw (eq-eqb found 0 z)
 

@@ -9,7 +9,7 @@ returns-then-cause-ne0 c =
     let a = c.args in
     c.refused_kind.ensures
     ∙ kind-refuses _ _ _ _ a.strikes.now a.bound.value a.kind a.expiry _ _ c.requires
-    c.option_cause-cause.ensures c.if-cause-ne0.true
+    (c.cause-cause.ensures ∙ c.option_cause.ensures) c.if-cause-ne0.true
 
 pub slice_bounds-rows-end : goal.slice_bounds-rows-end
 slice_bounds-rows-end c = list-room _ _ _ c.dates_of_kind-dates.ensures
@@ -22,5 +22,5 @@ returns c =
     let a = c.args in
     c.judged_strip.ensures
     ∙ list-handed _ _ _ _ a.strikes.now a.bound.value a.kind a.expiry
-    (sym c.option_cause-cause.ensures ∙ c.if-cause-ne0.false)
+    (sym (c.cause-cause.ensures ∙ c.option_cause.ensures) ∙ c.if-cause-ne0.false)
     _ c.side_of_kind.ensures _ c.dates_of_kind-dates.ensures

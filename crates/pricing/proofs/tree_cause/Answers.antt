@@ -5,4 +5,5 @@ use Rattle.pricing.proofs.tree_cause.Goals as goal
 
 pub returns : goal.returns
 unfolding tree_cause
-returns c = c.lowest_cause.ensures ∙ ap₂ lowest_cause c.discounts_cause-about_tree.ensures c.flows_cause.ensures
+returns c =
+    c.cause.ensures ∙ c.lowest_refusal-cause.ensures ∙ ap₂ lowest_cause c.discounts_cause.ensures c.flows_cause.ensures

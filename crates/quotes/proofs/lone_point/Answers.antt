@@ -7,36 +7,28 @@ use Rattle.quotes.proofs.lone_point.Goals as goal
 use Rattle.quotes.proofs.lone_point.Goals.{Else-not-is_frequency}
 
 pub returns-then-not-is_frequency : goal.returns-then-not-is_frequency
-returns-then-not-is_frequency c =
-    let a = c.args in
-    c.refusal.ensures
-    ∙ sym (lone-frequency a.frequency a.kind a.point (sym c.is_frequency.ensures ∙ c.if-not-is_frequency.true))
+returns-then-not-is_frequency c = sym (lone-frequency _ _ _ (sym c.is_frequency.ensures ∙ c.if-not-is_frequency.true))
 
 known : (c : Else-not-is_frequency) → is_frequency c.args.frequency ≡ true
 known c = sym c.is_frequency.ensures ∙ c.if-not-is_frequency.false
 
 pub returns-then-row-lt1 : goal.returns-then-row-lt1
 returns-then-row-lt1 c =
-    let l = c.before.before in
-    let a = l.args in
-    c.refusal-then-row-lt1.ensures ∙ sym (lone_row a.frequency a.kind a.point (known l) (row_low a.point.row c.if-row-lt1.true))
+    let k = known (goal.at.returns-then-row-lt1 c).Else-not-is_frequency in
+    sym (lone_row _ c.args.kind c.args.point k (row_low c.args.point.row c.if-row-lt1.true))
 
 pub returns-then-row-gt-LAST_ROW : goal.returns-then-row-gt-LAST_ROW
 returns-then-row-gt-LAST_ROW c =
-    let l = c.before.before.before in
-    let a = l.args in
-    c.refusal-then-row-gt-LAST_ROW.ensures
-    ∙ sym (lone_row a.frequency a.kind a.point (known l) (row-high a.point.row c.if-row-lt1.false c.if-row-gt-LAST_ROW.true))
+    let k = known (goal.at.returns-then-row-gt-LAST_ROW c).Else-not-is_frequency in
+    sym (lone_row _ c.args.kind c.args.point k (row-high c.args.point.row c.if-row-lt1.false c.if-row-gt-LAST_ROW.true))
 
 pub of_point-requires : goal.of_point-requires
 of_point-requires c =
-    let l = c.before.before in
-    let f = listed_small l.args.frequency (known l) in
+    let f = listed_small c.args.frequency (known (goal.at.of_point-requires c).Else-not-is_frequency) in
     (f.0, f.1, c.if-row-gt-LAST_ROW.false)
 
 pub returns : goal.returns
 returns c =
-    let l = c.before.before.before in
-    let a = l.args in
+    let k = known (goal.at.returns c).Else-not-is_frequency in
     c.of_point.ensures
-    ∙ sym (lone-kind a.frequency a.kind a.point (known l) (row-known a.point.row c.if-row-lt1.false c.if-row-gt-LAST_ROW.false))
+    ∙ sym (lone-kind _ c.args.kind c.args.point k (row-known c.args.point.row c.if-row-lt1.false c.if-row-gt-LAST_ROW.false))

@@ -35,9 +35,8 @@ size c = divisor-size c.args.frequency c.args.row c.args.rate c.requires.0 c.req
 pub returns-then-divisor-le0 : goal.returns-then-divisor-le0
 unfolding rate_discount
 returns-then-divisor-le0 c =
-    let s = c.before.before in
-    c.refusal.ensures
-    ∙ sym (ranged-none _ (quotient-none (one * one * s.args.frequency) (divisor s) (rw (back s) at c.if-divisor-le0.true)))
+    let s = (goal.at.returns-then-divisor-le0 c).Start in
+    sym (ranged-none _ (quotient-none (one * one * s.args.frequency) (divisor s) (rw (back s) at c.if-divisor-le0.true)))
 
 positive : (c : Else-divisor-le0) → le_z (divisor c.before) (pos 0) ≡ false
 positive c = rw (back c.before) at c.if-divisor-le0.false

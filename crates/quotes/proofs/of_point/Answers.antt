@@ -20,4 +20,3 @@ pub returns : goal.returns
 unfolding kind_answer
 returns c =
     simp (ne_eqb _ 5 c.if-kind-eq5.false, ne_eqb _ 6 c.if-kind-eq6.false, ne_eqb _ 9 c.if-kind-eq9.false)
-    c.refusal.ensures

@@ -27,65 +27,52 @@ number_is : (c : After-lowest_cause-cause) →
     c.lowest_cause-cause.result ≡ job_number a.job (length a.out.now)
 number_is c =
     let a = c.args in
-    laws.cause-is a.job _ (largest (goal.at.After-lowest_cause-cause c).After-prices_in_place-prices) a.out.now _ _ c.room_cause.ensures c.lowest_cause-cause.ensures
+    laws.cause-is a.job _ (largest (goal.at.After-lowest_cause-cause c).After-prices_in_place-prices)
+    a.out.now _ _ (c.cause.ensures ∙ c.room_cause.ensures) c.lowest_cause-cause.ensures
 
 pub returns-then-cause-ne0 : goal.returns-then-cause-ne0
 returns-then-cause-ne0 c =
-    let refusing = c.before in
-    let a = refusing.args in clauses-answer-memory (answers.refused-by _ _ _ a.out.now _ c.refused.ensures (number_is (goal.at.returns-then-cause-ne0 c).After-lowest_cause-cause) refusing.if-cause-ne0.true)
+    let a = c.args in
+    clauses-answer-memory
+    (answers.refused-by _ _ _ a.out.now _ c.refused.ensures (number_is (goal.at.returns-then-cause-ne0 c).After-lowest_cause-cause) c.if-cause-ne0.true)
 
 -- where no cause refuses the job
 no-cause : (c : Else-cause-ne0) → c.prices_in_place-prices.result.number ≡ 0
 no-cause c =
-    let found = c.before in
-    let a = found.args in
-    laws.priced-none a.job _ (largest (goal.at.Else-cause-ne0 c).After-prices_in_place-prices) a.out.now _ _ found.room_cause.ensures found.lowest_cause-cause.ensures c.if-cause-ne0.false
+    let a = c.args in
+    laws.priced-none a.job _ (largest (goal.at.Else-cause-ne0 c).After-prices_in_place-prices)
+    a.out.now _ _ (c.cause.ensures ∙ c.room_cause.ensures) c.lowest_cause-cause.ensures c.if-cause-ne0.false
 
 room : (c : Else-cause-ne0) → sheet_room ≤ length c.args.out.now
 room c =
-    let found = c.before in
-    let a = found.args in
-    laws.room-given a.job _ (largest (goal.at.Else-cause-ne0 c).After-prices_in_place-prices) a.out.now _ _ found.room_cause.ensures found.lowest_cause-cause.ensures c.if-cause-ne0.false
+    let a = c.args in
+    laws.room-given a.job _ (largest (goal.at.Else-cause-ne0 c).After-prices_in_place-prices)
+    a.out.now _ _ (c.cause.ensures ∙ c.room_cause.ensures) c.lowest_cause-cause.ensures c.if-cause-ne0.false
 
 fitted : (c : Else-cause-ne0) →
-    let p = c.before in
-    Fitted p.args.job p.prices_in_place-prices.new.discounts p.prices_in_place-prices.new.state_prices
+    Fitted c.args.job c.prices_in_place-prices.new.discounts c.prices_in_place-prices.new.state_prices
 fitted c =
-    let p = c.before in
-    let job = p.args.job in
-    let own-d = p.discount_room-discounts in
-    let own-p = p.state_price_room-state_prices in
-    let left = p.prices_in_place-prices.ensures in
-    fits.fitted job own-d.result own-p.result own-d.ensures own-p.ensures _ _ (sym (laws.prices-number-is job _ (largest (goal.at.Else-cause-ne0 c).After-prices_in_place-prices)) ∙ no-cause c)
+    let job = c.args.job in
+    let own-d = c.discount_room-discounts in
+    let own-p = c.state_price_room-state_prices in
+    let left = c.prices_in_place-prices.ensures in
+    fits.fitted job own-d.result own-p.result own-d.ensures own-p.ensures _ _
+    (sym (laws.prices-number-is job _ (largest (goal.at.Else-cause-ne0 c).After-prices_in_place-prices)) ∙ no-cause c)
     left.discounted left.priced
 
 pub draw-start-requires : goal.draw-start-requires
 draw-start-requires c =
-    let accepted = c.before.before.before in
-    let p = accepted.before in
-    record { fitted = (fitted (goal.at.draw-start-requires c).Else-cause-ne0, room (goal.at.draw-start-requires c).Else-cause-ne0); prices_value = laws.prices-known p.args.job _ (largest (goal.at.draw-start-requires c).After-prices_in_place-prices) (no-cause (goal.at.draw-start-requires c).Else-cause-ne0) }
+    record {
+      fitted = (fitted (goal.at.draw-start-requires c).Else-cause-ne0, room (goal.at.draw-start-requires c).Else-cause-ne0);
+      prices_value =
+          laws.prices-known c.args.job _ (largest (goal.at.draw-start-requires c).After-prices_in_place-prices)
+          (no-cause (goal.at.draw-start-requires c).Else-cause-ne0);
+    }
 
 pub overflow_sub-result : goal.overflow_sub-result
 overflow_sub-result c = omega (arith, c.draw-start.ensures.place)
 
 pub returns : goal.returns
 returns c =
-    let found = c.before in clauses-answer-memory (answers.sheet-put _ _ found.args.out.now _ _ (sym (number_is (goal.at.returns c).After-lowest_cause-cause) ∙ c.if-cause-ne0.false) c.draw-start.ensures)
-
-pub discount_room-discounts-requires : goal.discount_room-discounts-requires
-discount_room-discounts-requires c = tt
-
-pub state_price_room-state_prices-requires : goal.state_price_room-state_prices-requires
-state_price_room-state_prices-requires c = tt
-
-pub prices_in_place-prices-requires : goal.prices_in_place-prices-requires
-prices_in_place-prices-requires c = tt
-
-pub room_cause-requires : goal.room_cause-requires
-room_cause-requires c = tt
-
-pub lowest_cause-cause-requires : goal.lowest_cause-cause-requires
-lowest_cause-cause-requires c = tt
-
-pub refused-requires : goal.refused-requires
-refused-requires c = tt
+    clauses-answer-memory
+    (answers.sheet-put _ _ c.args.out.now _ _ (sym (number_is (goal.at.returns c).After-lowest_cause-cause) ∙ c.if-cause-ne0.false) c.draw-start.ensures)

@@ -1,25 +1,30 @@
+use Rattle.std.proofs.Common.{refl}
 use Rattle.limits.specs.WithinLimits.{WithinLimits}
 use Rattle.arithmetic.proofs.Implied.{implied}
-use Rattle.lattice.proofs.TreeEntries.{tree-accepted, tree-value}
+use Rattle.arithmetic.proofs.RefusalLaws.{refusal-some}
+use Rattle.lattice.proofs.TreeEntries.{tree-accepted, tree-value, tree-ok}
 use Rattle.row_view.proofs.ViewLaws as laws
 use Rattle.row_view.proofs.holds_tree.Goals as goal
-use Rattle.row_view.proofs.holds_tree.Goals.{Else-discounts_needed-ne0}
+use Rattle.row_view.proofs.holds_tree.Goals.{In-Ok}
 
-pub returns-then-discounts_needed-ne0 : goal.returns-then-discounts_needed-ne0
-returns-then-discounts_needed-ne0 c = laws.refused-tree implied _ _ c.discounts_needed-discounts_needed.ensures c.if-discounts_needed-ne0.true
+pub returns-in_default : goal.returns-in_default
+returns-in_default c = laws.refused-tree implied _ _ c.in_default.ensures (refusal-some _)
 
-accepted : (c : Else-discounts_needed-ne0) → WithinLimits c.args.steps c.args.reversion
-accepted c = tree-accepted _ _ _ _ c.discounts_needed-discounts_needed.ensures c.if-discounts_needed-ne0.false
+accepted : (c : In-Ok) → WithinLimits c.args.steps c.args.reversion
+accepted c = tree-accepted _ _ _ _ c.in-Ok.ensures refl
 
 pub returns-then-discounts-discounts_needed : goal.returns-then-discounts-discounts_needed
 returns-then-discounts-discounts_needed c =
-    let e = c.before.before in
-    laws.short-discounts implied (accepted (goal.at.returns-then-discounts-discounts_needed c).Else-discounts_needed-ne0) _ (tree-value _ _ _ _ e.discounts_needed-discounts_needed.ensures (accepted (goal.at.returns-then-discounts-discounts_needed c).Else-discounts_needed-ne0)) c.if-discounts-discounts_needed.true
+    let l = accepted (goal.at.returns-then-discounts-discounts_needed c).In-Ok in
+    laws.short-discounts implied l _ (tree-value _ _ _ _ c.in-Ok.ensures l) c.if-discounts-discounts_needed.true
+
+pub unwrap-state_prices_needed-requires : goal.unwrap-state_prices_needed-requires
+unwrap-state_prices_needed-requires c =
+    tree-ok _ _ _ _ c.state_prices_needed.ensures (accepted (goal.at.unwrap-state_prices_needed-requires c).In-Ok)
 
 pub returns : goal.returns
 returns c =
-    let e = c.before.before.before.before in
-    laws.long-discounts implied (accepted (goal.at.returns c).Else-discounts_needed-ne0) _ _
-    (tree-value _ _ _ _ e.discounts_needed-discounts_needed.ensures (accepted (goal.at.returns c).Else-discounts_needed-ne0))
-    (tree-value _ _ _ _ c.state_prices_needed-state_prices_needed.ensures (accepted (goal.at.returns c).Else-discounts_needed-ne0))
+    let l = accepted (goal.at.returns c).In-Ok in
+    laws.long-discounts implied l _ _ (tree-value _ _ _ _ c.in-Ok.ensures l)
+    (tree-value _ _ _ _ (rw c.unwrap-state_prices_needed.ensures at c.state_prices_needed.ensures) l)
     c.if-discounts-discounts_needed.false

@@ -1,6 +1,7 @@
-use mathlib.Core.Path.{◌≡◌, sym, ◌∙◌}
+use mathlib.Core.Path.{refl, ◌∙◌}
 use native.Mathlib.Omega.{arith}
 use Rattle.arithmetic.proofs.Implied.{implied}
+use Rattle.arithmetic.proofs.RefusalLaws.{refusal-some}
 use Rattle.shelf_laws.proofs.NameLaws.{There}
 use Rattle.shelf_laws.proofs.EntryLaws.{not-awaiting, awaiting, commit-15, memory-15, slots-left, commit-number, commit-memory, commit-slots}
 use borrow.Author.Rules.{rules}
@@ -21,15 +22,20 @@ returns-then-tree-ne1 c =
     let after = c.refused.ensures in
     record { number = after.0 ∙ number; slots = after.1 ∙ slots-left implied _ number (λ z. omega arith); memory = memory-15 implied none }
 
-pub fit_part-number-requires : goal.fit_part-number-requires
-fit_part-number-requires c = omega (arith, (told (goal.at.fit_part-number-requires c).Else-tree-ne1).fits)
+pub fit_part-fitted-requires : goal.fit_part-fitted-requires
+fit_part-fitted-requires c = omega (arith, (told (goal.at.fit_part-fitted-requires c).Else-tree-ne1).fits)
 
-pub returns-then-number-ne0 : goal.returns-then-number-ne0
-returns-then-number-ne0 c =
+pub returns-in-Err : goal.returns-in-Err
+returns-in-Err c =
     let tree = c.tree_of-tree.ensures in
-    let fit = c.fit_part-number.ensures in
-    let after = c.refused-then-number-ne0.ensures in
-    let number = commit-number implied tree (search rules) fit.number in record { number = after.0 ∙ number; slots = after.1 ∙ slots-left implied _ number c.if-number-ne0.true; memory = commit-memory implied tree (search rules) number _ fit.memory }
+    let fit = rw c.in-Err.is at c.fit_part-fitted.ensures in
+    let after = c.refused-in-Err.ensures in
+    let number = commit-number implied tree (search rules) fit.number in
+    record {
+      number = after.0 ∙ number;
+      slots = after.1 ∙ slots-left implied _ number (refusal-some _);
+      memory = commit-memory implied tree (search rules) number _ fit.memory;
+    }
 
 pub fitted_slot-slot-requires : goal.fitted_slot-slot-requires
 fitted_slot-slot-requires c = omega (arith, (told (goal.at.fitted_slot-slot-requires c).Else-tree-ne1).fits)
@@ -46,8 +52,12 @@ pub returns : goal.returns
 returns c =
     let m = c.args.memory.now in
     let tree = c.tree_of-tree.ensures in
-    let fit = c.fit_part-number.ensures in
+    let fit = rw c.in_default.is at c.fit_part-fitted.ensures in
     let slot = c.fitted_slot-slot.ensures in
     let after = c.replaced.ensures in
-    let none : c.fit_part-number.result ≡ 0 = search rules in
-    let number = commit-number implied tree (search rules) fit.number in record { number = after.0 ∙ sym none ∙ number; slots = commit-slots implied tree (search rules) number none m (search rules) fit.memory slot after.1; memory = commit-memory implied tree (search rules) number m fit.memory }
+    let number = commit-number implied tree (search rules) fit.number in
+    record {
+      number = after.0 ∙ number;
+      slots = commit-slots implied tree (search rules) number refl m (search rules) fit.memory slot after.1;
+      memory = commit-memory implied tree (search rules) number m fit.memory;
+    }

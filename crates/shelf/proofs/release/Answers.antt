@@ -35,4 +35,8 @@ returns c =
     let t = told (goal.at.returns c).Else-tree-eq0 in
     let after = c.replaced.ensures in
     let memory = c.close_part.ensures in
-    record { number = after.0 ∙ sym t.cause; slots = release-slots _ _ _ _ t _ _ c.empty_slot-slot.ensures after.1; memory = release-memory _ _ _ _ t _ _ memory }
+    record {
+      number = after.0 ∙ sym t.cause;
+      slots = release-slots _ _ _ _ t _ _ c.empty_slot-slot.ensures after.1;
+      memory = release-memory _ _ _ _ t _ _ memory;
+    }

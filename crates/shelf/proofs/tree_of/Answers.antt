@@ -34,7 +34,9 @@ pub overflow_sub-name-2 : goal.overflow_sub-name-2
 overflow_sub-name-2 c = omega (arith, (told (goal.at.overflow_sub-name-2 c).Else-status-gt2).low)
 
 pub nodes_before-requires : goal.nodes_before-requires
-nodes_before-requires c = omega (arith, (told (goal.at.nodes_before-requires c).Else-status-gt2).low, (told (goal.at.nodes_before-requires c).Else-status-gt2).high)
+nodes_before-requires c =
+    let found = told (goal.at.nodes_before-requires c).Else-status-gt2 in
+    omega (arith, found.low, found.high)
 
 pub returns : goal.returns
 returns c =

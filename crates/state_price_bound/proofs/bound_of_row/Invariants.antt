@@ -1,10 +1,5 @@
-use Prim.Native.Nat.{◌≤◌, ◌-◌}
 use Rattle.state_price_bound.specs.inside.Reached.{Reached}
 use Rattle.state_price_bound.proofs.bound_of_row.Given as goal
 
 abbrev pub invariant-loop-index : goal.invariant-loop-index
-invariant-loop-index l =
-    (l.index ≤ l.row) × Reached l.reversion l.discounts l.index l.reached.start l.reached.nodes l.reached.bound
-
-abbrev pub decreases-loop-index : goal.decreases-loop-index
-decreases-loop-index l = l.row - l.index
+invariant-loop-index l = Reached l.reversion l.discounts l.index l.reached.start l.reached.nodes l.reached.bound

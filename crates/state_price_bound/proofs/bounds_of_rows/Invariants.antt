@@ -1,5 +1,4 @@
-use Prim.Native.Nat.{◌+◌, ◌≤◌, ◌-◌}
-use lib.ListN.{replicate}
+use Rattle.std.proofs.Common.{◌+◌, replicate}
 use Rattle.arithmetic.proofs.RowLaws.{Filled}
 use Rattle.limits.specs.Limits.{most_steps}
 use Rattle.lattice.specs.RateTree.{rate_tree}
@@ -10,8 +9,5 @@ use Rattle.state_price_bound.proofs.bounds_of_rows.Given as goal
 
 abbrev pub invariant-loop-index : goal.invariant-loop-index
 invariant-loop-index l =
-    (l.index ≤ l.steps) × Reached l.reversion l.discounts l.index l.reached.start l.reached.nodes l.reached.bound
+    Reached l.reversion l.discounts l.index l.reached.start l.reached.nodes l.reached.bound
     × Filled (replicate (most_steps + 1) 0) l.bounds (state_price_error_bound (rate_tree l.reversion) (stored l.reversion l.discounts)) (l.index + 1)
-
-abbrev pub decreases-loop-index : goal.decreases-loop-index
-decreases-loop-index l = l.steps - l.index

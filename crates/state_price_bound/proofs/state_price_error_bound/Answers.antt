@@ -1,19 +1,20 @@
-use mathlib.Core.Path.{◌≡◌}
-use Rattle.state_price_bound.specs.ErrorBound.{bound_cause}
+use Rattle.std.proofs.Common.{refl}
+use Rattle.std.proofs.lemmas.Result.{err_from_is_err_and}
+use Rattle.arithmetic.proofs.RefusalLaws.{refusal-some}
 use Rattle.state_price_bound.proofs.BoundLaws as laws
 use Rattle.state_price_bound.proofs.state_price_error_bound.Goals as goal
-use Rattle.state_price_bound.proofs.state_price_error_bound.Goals.{After-lowest_cause-number}
 
-joined : (c : After-lowest_cause-number) →
-    c.lowest_cause-number.result ≡ bound_cause c.args.steps c.args.reversion c.args.discounts.now c.args.row
-joined c =
-    laws.refusal_is _ _ _ _ c.discounts_cause.ensures c.row_cause.ensures c.lowest_cause-number.ensures
-
-pub returns-then-number-ne0 : goal.returns-then-number-ne0
-returns-then-number-ne0 c = laws.bound-refused _ _ _ _ (joined (goal.at.returns-then-number-ne0 c).After-lowest_cause-number) c.if-number-ne0.true
+pub returns-in_err-lowest_refusal : goal.returns-in_err-lowest_refusal
+returns-in_err-lowest_refusal c =
+    let p = err_from_is_err_and c.from_residual.result c.from_residual.ensures.1 in
+    let e = laws.refusal_is _ _ _ _ c.discounts_cause.ensures c.row_cause.ensures c.in_err-lowest_refusal.ensures in
+    rw (p.1, p.2) (laws.bound-refused _ _ _ _ e (refusal-some _))
 
 pub bound_of_row-requires : goal.bound_of_row-requires
-bound_of_row-requires c = laws.row-needs _ _ _ _ (joined (goal.at.bound_of_row-requires c).After-lowest_cause-number) c.if-number-ne0.false
+bound_of_row-requires c =
+    laws.row-needs _ _ _ _ (laws.refusal_is _ _ _ _ c.discounts_cause.ensures c.row_cause.ensures c.in_ok-lowest_refusal.ensures) refl
 
 pub returns : goal.returns
-returns c = laws.bound-answered _ _ _ _ (joined (goal.at.returns c).After-lowest_cause-number) c.if-number-ne0.false _ c.bound_of_row.ensures
+returns c =
+    laws.bound-answered _ _ _ _ (laws.refusal_is _ _ _ _ c.discounts_cause.ensures c.row_cause.ensures c.in_ok-lowest_refusal.ensures)
+    refl _ c.bound_of_row.ensures

@@ -12,24 +12,21 @@ use Rattle.limits.proofs.LimitLaws.{discount-least, discount-most}
 use Rattle.step_rate.specs.StepRate.{answered_rate}
 use Rattle.step_rate.proofs.RateLaws.{ratio-small, rate-above, rate-within, answer-refused, answer-known}
 use Rattle.step_rate.proofs.of_discount.Goals as goal
-use Rattle.step_rate.proofs.of_discount.Goals.{After-ratio, After-ratio-2, Else-not-is_discount}
+use Rattle.step_rate.proofs.of_discount.Goals.{After-ratio, After-ratio-2}
 
 pub returns-then-not-is_discount : goal.returns-then-not-is_discount
 returns-then-not-is_discount c = sym (answer-refused c.args.discount (sym c.is_discount.ensures ∙ c.if-not-is_discount.true))
 
-accepted : (c : Else-not-is_discount) → is_discount c.args.discount ≡ true
-accepted c = sym c.is_discount.ensures ∙ c.if-not-is_discount.false
-
-known : (c : Else-not-is_discount) → (1 ≤ c.args.discount) × (c.args.discount ≤ most_discount)
-known c = (discount-least c.args.discount (accepted c), discount-most c.args.discount (accepted c))
+known : (v : ℕ) → is_discount v ≡ true → (1 ≤ v) × (v ≤ most_discount)
+known v a = (discount-least v a, discount-most v a)
 
 pub ratio-requires : goal.ratio-requires
-ratio-requires c = let k = known c.before in (omega arith, omega arith, omega arith)
+ratio-requires c = let k = known c.args.discount (sym c.is_discount.ensures ∙ c.if-not-is_discount.false) in (omega arith, omega arith, omega arith)
 
 above-small : (c : After-ratio) → c.ratio.result ≤ one * one
 above-small c =
     let v = c.args.discount in
-    let k = known c.before.before in
+    let k = known c.args.discount (sym c.is_discount.ensures ∙ c.if-not-is_discount.false) in
     ratio-small c.ratio.result (v - one) v c.ratio.ensures (omega arith) (omega arith)
 
 pub overflow_cast-result : goal.overflow_cast-result
@@ -41,7 +38,7 @@ overflow_sub-result c = minus-fits c.ratio.result (omega (arith, above-small c))
 pub returns-then-discount-gt-ONE : goal.returns-then-discount-gt-ONE
 returns-then-discount-gt-ONE c =
     let v = c.args.discount in
-    let k = known c.before.before in
+    let k = known c.args.discount (sym c.is_discount.ensures ∙ c.if-not-is_discount.false) in
     ap answered_rate
     (minus-back c.ratio.result (omega (arith, above-small c))
     ∙ ap (λ (m : ℕ). neg_ℤ (pos m)) c.ratio.ensures
@@ -49,12 +46,12 @@ returns-then-discount-gt-ONE c =
     ∙ sym (answer-known v (omega arith) k.1)
 
 pub ratio-requires-2 : goal.ratio-requires-2
-ratio-requires-2 c = let k = known c.before in (omega arith, omega arith, omega arith)
+ratio-requires-2 c = let k = known c.args.discount (sym c.is_discount.ensures ∙ c.if-not-is_discount.false) in (omega arith, omega arith, omega arith)
 
 within-small : (c : After-ratio-2) → c.ratio-2.result ≤ one * one
 within-small c =
     let v = c.args.discount in
-    let k = known c.before.before in
+    let k = known c.args.discount (sym c.is_discount.ensures ∙ c.if-not-is_discount.false) in
     ratio-small c.ratio-2.result (one - v) v c.ratio-2.ensures (omega arith) (omega arith)
 
 pub overflow_cast-result-2 : goal.overflow_cast-result-2
@@ -63,7 +60,7 @@ overflow_cast-result-2 c = record { sfits = omega (arith, within-small c) }
 pub returns : goal.returns
 returns c =
     let v = c.args.discount in
-    let k = known c.before.before in
+    let k = known c.args.discount (sym c.is_discount.ensures ∙ c.if-not-is_discount.false) in
     ap answered_rate
     (to_z_pos w64 (omega (arith, within-small c))
     ∙ ap pos c.ratio-2.ensures

@@ -1,35 +1,41 @@
-use mathlib.Core.Path.{◌≡◌, ap, ◌∙◌}
-use lib.ListN.{length}
+use Rattle.std.proofs.Common.{◌∙◌, ap, length, refl, sym}
+use Rattle.std.proofs.lemmas.Result.{err_from_is_err_and}
 use mir.Facts.{to_z-of_z}
+use Rattle.arithmetic.proofs.RefusalLaws.{refusal-some}
 use Rattle.step_rate.specs.declared.Rate.{Rate}
 use Rattle.step_rate.proofs.RateLaws.{value-back}
-use Rattle.text_laws.specs.Lines.{node_number}
-use Rattle.text_laws.proofs.LineLaws.{node-cause, node-room-known, node-refused, node-put}
+use Rattle.text_laws.proofs.LineLaws.{room-known, node-near, node-far, node-refused, node-put}
 use Rattle.text.proofs.node_line.Goals as goal
-use Rattle.text.proofs.node_line.Goals.{After-lowest_cause-cause}
+use Rattle.text.proofs.node_line.Goals.{In_ok-line_cause}
 
 clauses-value-out_after : {A B : Type 0} → A × B → record { value : A; out_after : B }
 clauses-value-out_after w = record { value = w.0; out_after = w.1 }
 
-cause : (c : After-lowest_cause-cause) → let a = c.args in c.lowest_cause-cause.result ≡ node_number (length a.out.now) a.end a.discount
-cause c =
+pub returns-in_err-line_cause : goal.returns-in_err-line_cause
+returns-in_err-line_cause c =
+    let p = err_from_is_err_and c.from_residual.result c.from_residual.ensures.1 in
     let a = c.args in
-    node-cause (length a.out.now) a.end a.discount _ _ _ c.of_discount-rate.ensures c.line_number.ensures
-    c.lowest_cause-cause.ensures
+    let near = node-near (length a.out.now) a.end a.discount (λ z. refusal-some _ (c.in_err-line_cause.ensures ∙ z)) in
+    rw (p.1, p.2)
+    (clauses-value-out_after (node-refused a.out.now a.end a.row a.discount _ _ (c.in_err-line_cause.ensures ∙ near) (refusal-some _)))
 
-pub returns-then-cause-ne0 : goal.returns-then-cause-ne0
-returns-then-cause-ne0 c =
-    let a = c.args in clauses-value-out_after (node-refused a.out.now a.end a.row a.discount _ _ (cause (goal.at.returns-then-cause-ne0 c).After-lowest_cause-cause) c.if-cause-ne0.true)
+pub returns-in_err-rate : goal.returns-in_err-rate
+returns-in_err-rate c =
+    let f = c.from_residual-in_err-rate in
+    let p = err_from_is_err_and f.result f.ensures.1 in
+    let a = c.args in
+    let far = node-far (length a.out.now) a.end a.discount (sym c.in_ok-line_cause.ensures) in
+    let number = ap (λ (r : Rate). r.number) c.in_err-rate.ensures in
+    rw (p.1, p.2) (clauses-value-out_after (node-refused a.out.now a.end a.row a.discount _ _ (number ∙ far) (refusal-some _)))
 
-pub put_node-start-requires : goal.put_node-start-requires
-put_node-start-requires c =
-    let accepted = c.before.before in
-    node-room-known _ _ accepted.args.discount _ (cause (goal.at.put_node-start-requires c).After-lowest_cause-cause) accepted.if-cause-ne0.false
+pub put_node-requires : goal.put_node-requires
+put_node-requires c = room-known _ _ (sym c.in_ok-line_cause.ensures)
 
 pub returns : goal.returns
 returns c =
-    let accepted = c.before.before.before in
-    let a = accepted.args in
-    let rate = accepted.of_discount-rate in
-    let r = value-back a.discount rate.result rate.ensures ∙ ap (λ (r : Rate). r.value) rate.ensures in clauses-value-out_after (node-put a.out.now a.end a.row a.discount _ _ (cause (goal.at.returns c).After-lowest_cause-cause) accepted.if-cause-ne0.false _ r
-    (rw (to_z-of_z accepted.ranges.node) at c.put_node-start.ensures))
+    let a = c.args in
+    let e = c.in_ok-rate.ensures in
+    let r = value-back a.discount _ e ∙ ap (λ (r : Rate). r.value) e in
+    let far = node-far (length a.out.now) a.end a.discount (sym c.in_ok-line_cause.ensures) in
+    clauses-value-out_after (node-put a.out.now a.end a.row a.discount _ _ (ap (λ (r : Rate). r.number) e ∙ far) refl _ r
+    (rw (to_z-of_z c.ranges.node) at c.put_node.ensures))

@@ -1,39 +1,47 @@
-use mathlib.Core.Path.{sym, ◌∙◌}
+use mathlib.Core.Path.{sym}
 use Prim.Native.Nat.{◌≤◌}
 use native.Mathlib.Omega.{arith}
 use lib.ListN.{length}
+use Rattle.std.proofs.lemmas.Result.{err_from_is_err_and}
+use Rattle.arithmetic.proofs.RefusalLaws.{refusal-some}
 use Rattle.text_laws.specs.Lines.{price_line, longest_line}
 use Rattle.text_laws.proofs.LineLaws.{room-known, line_refused, line-put, room-left, bounded-room}
 use Rattle.text_laws.proofs.PutLaws.{put-before}
 use Rattle.text.proofs.price_line.Goals as goal
-use Rattle.text.proofs.price_line.Goals.{After-put_bounded-price_start, Else-cause-ne0}
+use Rattle.text.proofs.price_line.Goals.{After-put_bounded-price_start, In_ok-line_cause}
 
 clauses-value-out_after : {A B : Type 0} → A × B → record { value : A; out_after : B }
 clauses-value-out_after w = record { value = w.0; out_after = w.1 }
 
-pub returns-then-cause-ne0 : goal.returns-then-cause-ne0
-returns-then-cause-ne0 c = clauses-value-out_after (line_refused c.args.out.now c.args.end _ c.line_number-cause.result c.line_number-cause.ensures c.if-cause-ne0.true)
+pub returns-in_err-line_cause : goal.returns-in_err-line_cause
+returns-in_err-line_cause c =
+    let p = err_from_is_err_and c.from_residual.result c.from_residual.ensures.1 in
+    rw (p.1, p.2) (clauses-value-out_after (line_refused c.args.out.now c.args.end _ _ c.in_err-line_cause.ensures (refusal-some _)))
 
-room : (c : Else-cause-ne0) → (longest_line ≤ c.args.end) × (c.args.end ≤ length c.args.out.now)
+room : (c : In_ok-line_cause) → (longest_line ≤ c.args.end) × (c.args.end ≤ length c.args.out.now)
 room c =
     let a = c.args in
-    room-known (length a.out.now) a.end (sym c.line_number-cause.ensures ∙ c.if-cause-ne0.false)
+    room-known (length a.out.now) a.end (sym c.in_ok-line_cause.ensures)
 
 pub put_bounded-price_start-requires : goal.put_bounded-price_start-requires
-put_bounded-price_start-requires c = (omega (arith, (room (goal.at.put_bounded-price_start-requires c).Else-cause-ne0).0), (room (goal.at.put_bounded-price_start-requires c).Else-cause-ne0).1)
+put_bounded-price_start-requires c =
+    let r = room (goal.at.put_bounded-price_start-requires c).In_ok-line_cause in
+    (omega (arith, r.0), r.1)
 
-price-put : (c : After-put_bounded-price_start) → (75 ≤ c.put_bounded-price_start.result) × (c.put_bounded-price_start.result ≤ length c.put_bounded-price_start.new.out)
+price-put : (c : After-put_bounded-price_start) →
+    (75 ≤ c.put_bounded-price_start.result) × (c.put_bounded-price_start.result ≤ length c.put_bounded-price_start.new.out)
 price-put c =
-    room-left 53 75 c.put_bounded-price_start.ensures (omega (arith, (room (goal.at.After-put_bounded-price_start c).Else-cause-ne0).0))
+    room-left 53 75 c.put_bounded-price_start.ensures (omega (arith, (room (goal.at.After-put_bounded-price_start c).In_ok-line_cause).0))
     (bounded-room c.args.price c.args.bound c.ranges.price.fits c.ranges.bound.fits)
 
-pub put_word-start-requires : goal.put_word-start-requires
-put_word-start-requires c =
-    let p = price-put (goal.at.put_word-start-requires c).After-put_bounded-price_start in
+pub put_word-requires : goal.put_word-requires
+put_word-requires c =
+    let p = price-put (goal.at.put_word-requires c).After-put_bounded-price_start in
     (omega arith, p.1)
 
 pub returns : goal.returns
 unfolding price_line
 returns c =
-    let priced = c.before.before.before.before in
-    let a = priced.args in clauses-value-out_after (line-put a.out.now a.end _ (room (goal.at.returns c).Else-cause-ne0).0 (put-before priced.put_bounded-price_start.ensures c.put_word-start.ensures))
+    let a = c.args in
+    clauses-value-out_after
+    (line-put a.out.now a.end _ (room (goal.at.returns c).In_ok-line_cause).0 (put-before c.put_bounded-price_start.ensures c.put_word.ensures))

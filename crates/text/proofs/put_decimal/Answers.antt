@@ -24,6 +24,5 @@ put_natural-requires c =
 
 pub returns : goal.returns
 returns c =
-    let divided = c.before.before.before in
     let whole = rw (power (goal.at.returns c).After-power_of_ten) at c.put_natural.ensures in
-    rw (decimal-parts divided.args.decimals divided.args.number) (put-before divided.put_fraction-point.ensures whole)
+    rw (decimal-parts c.args.decimals c.args.number) (put-before c.put_fraction-point.ensures whole)

@@ -16,17 +16,14 @@ bounds-out-after c = let r = room (goal.at.bounds-out-after c).Start in omega ar
 
 pub put_decimal-requires : goal.put_decimal-requires
 put_decimal-requires c =
-    let s = c.before.before in
-    let a = s.args in
-    let b = put_one a.out.now a.end a.follower (room (goal.at.put_decimal-requires c).Start) s.requires.2 in
-    (s.requires.0, omega (arith, field-length a.decimals a.number a.follower), omega (arith, b.same))
+    let a = c.args in
+    let b = put_one a.out.now a.end a.follower (room (goal.at.put_decimal-requires c).Start) c.requires.2 in
+    (c.requires.0, omega (arith, field-length a.decimals a.number a.follower), omega (arith, b.same))
 
 pub shape_of-out : goal.shape_of-out
 shape_of-out c =
-    let s = c.before.before.before.before.before in
-    omega (arith, (put_one s.args.out.now s.args.end s.args.follower (room (goal.at.shape_of-out c).Start) s.requires.2).same, c.put_decimal.ensures.same)
+    omega (arith, (put_one c.args.out.now c.args.end c.args.follower (room (goal.at.shape_of-out c).Start) c.requires.2).same, c.put_decimal.ensures.same)
 
 pub returns : goal.returns
 returns c =
-    let s = c.before.before.before.before.before in
-    put-before (put_one s.args.out.now s.args.end s.args.follower (room (goal.at.returns c).Start) s.requires.2) c.put_decimal.ensures
+    put-before (put_one c.args.out.now c.args.end c.args.follower (room (goal.at.returns c).Start) c.requires.2) c.put_decimal.ensures

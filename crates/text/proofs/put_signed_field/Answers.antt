@@ -25,14 +25,12 @@ field_put c = rw (size (goal.at.After-put_field-unsigned c).After-magnitude) at 
 
 pub put_sign-requires : goal.put_sign-requires
 put_sign-requires c =
-    let fielded = c.before.before.before in
-    let a = fielded.args in
+    let a = c.args in
     let p = field_put (goal.at.put_sign-requires c).After-put_field-unsigned in
-    rw (to_z-of_z fielded.ranges.number)
+    rw (to_z-of_z c.ranges.number)
     (omega (arith, p.place, signed-length a.decimals a.follower a.number), omega (arith, p.place, p.same))
 
 pub returns : goal.returns
 returns c =
-    let fielded = c.before.before.before.before in
-    let sign = rw (to_z-of_z fielded.ranges.number) at c.put_sign.ensures in
-    rw (signed_parts fielded.args.decimals fielded.args.follower fielded.args.number) (put-before (field_put (goal.at.returns c).After-put_field-unsigned) sign)
+    let sign = rw (to_z-of_z c.ranges.number) at c.put_sign.ensures in
+    rw (signed_parts c.args.decimals c.args.follower c.args.number) (put-before (field_put (goal.at.returns c).After-put_field-unsigned) sign)

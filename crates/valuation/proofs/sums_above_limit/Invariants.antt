@@ -1,10 +1,5 @@
-use Prim.Native.Nat.{◌≤◌, ◌-◌}
-use lib.ListN.{length}
 use Rattle.valuation.proofs.EntryLaws as laws
 use Rattle.valuation.proofs.sums_above_limit.Given as goal
 
-abbrev pub invariant-loop-index : goal.invariant-loop-index
-invariant-loop-index l = (l.index ≤ length l.prices) × laws.Summed l.prices l.index l.total
-
-abbrev pub decreases-loop-index : goal.decreases-loop-index
-decreases-loop-index l = length l.prices - l.index
+abbrev pub invariant-loop-price : goal.invariant-loop-price
+invariant-loop-price l = laws.Summed l.prices l.price-index l.total

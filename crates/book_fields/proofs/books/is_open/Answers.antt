@@ -34,12 +34,10 @@ sized s = search rules
 
 pub slice_bounds-all_between-end : goal.slice_bounds-all_between-end
 slice_bounds-all_between-end c =
-    let s = c.before.before.before.before.before.before.before.before.before.before.before.before.before.before.before.before.before.before in
     sym (sized (goal.at.slice_bounds-all_between-end c).Start)
 
 pub returns : goal.returns
 returns c =
-    let s = c.before in
     c.all_between.ensures
     ∙ counts-tested _ _ (sized (goal.at.returns c).Start)
     ∙ counts-last _ c.if-book.false c.if-book-gt-MOST_FIELDS.false c.if-book-2.false c.if-book-3.false c.if-book-4.false c.if-book-5.false

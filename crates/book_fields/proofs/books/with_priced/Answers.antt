@@ -16,19 +16,16 @@ overflow_add-result c = let w = known (goal.at.overflow_add-result c).Start in o
 
 pub overflow_add-result-2 : goal.overflow_add-result-2
 overflow_add-result-2 c =
-    let s = c.before.before.before.before.before.before in
-    let w = known (goal.at.overflow_add-result-2 c).Start in omega (arith, w.fields, w.bonds, s.requires.1.bond)
+    let w = known (goal.at.overflow_add-result-2 c).Start in omega (arith, w.fields, w.bonds, c.requires.1.bond)
 
 pub overflow_add-result-3 : goal.overflow_add-result-3
 overflow_add-result-3 c =
-    let s = c.before.before.before.before.before.before.before.before in
     let w = known (goal.at.overflow_add-result-3 c).Start in
-    omega (arith, w.fields, w.options, option-most s.args.prices s.requires.1, c.option_of.ensures)
+    omega (arith, w.fields, w.options, option-most c.args.prices c.requires.1, c.option_of.ensures)
 
 pub overflow_add-result-4 : goal.overflow_add-result-4
 overflow_add-result-4 c =
-    let s = c.before.before.before.before.before.before.before.before.before.before in
-    let w = known (goal.at.overflow_add-result-4 c).Start in omega (arith, w.fields, w.error-bounds, s.requires.1.bound)
+    let w = known (goal.at.overflow_add-result-4 c).Start in omega (arith, w.fields, w.error-bounds, c.requires.1.bound)
 
 pub returns : goal.returns
 unfolding with_priced

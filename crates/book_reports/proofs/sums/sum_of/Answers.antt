@@ -12,49 +12,44 @@ second : (s : Start) → Sound s.args.second
 second s = report-sound s.args.second s.requires.1
 
 pub counts_of-counts-requires : goal.counts_of-counts-requires
-counts_of-counts-requires c =
-    let s = c.before.before in
-    (counts-small s.args.first (first (goal.at.counts_of-counts-requires c).Start), counts-small s.args.second (second (goal.at.counts_of-counts-requires c).Start))
+counts_of-counts-requires c = (
+  counts-small c.args.first (first (goal.at.counts_of-counts-requires c).Start),
+  counts-small c.args.second (second (goal.at.counts_of-counts-requires c).Start),
+)
 
 pub overflow_add-result-2 : goal.overflow_add-result-2
 overflow_add-result-2 c =
-    let s = c.before.before.before.before.before.before.before.before in
     let a = first (goal.at.overflow_add-result-2 c).Start in
     let b = second (goal.at.overflow_add-result-2 c).Start in
-    omega (arith, s.requires.2)
+    omega (arith, c.requires.2)
 
 pub overflow_add-result-3 : goal.overflow_add-result-3
 overflow_add-result-3 c =
-    let s = c.before.before.before.before.before.before.before.before.before.before in
     let a = first (goal.at.overflow_add-result-3 c).Start in
     let b = second (goal.at.overflow_add-result-3 c).Start in
-    omega (arith, a.priced, b.priced, s.requires.2)
+    omega (arith, a.priced, b.priced, c.requires.2)
 
 pub overflow_add-result-4 : goal.overflow_add-result-4
 overflow_add-result-4 c =
-    let s = c.before.before.before.before.before.before.before.before.before.before.before.before in
     let a = first (goal.at.overflow_add-result-4 c).Start in
     let b = second (goal.at.overflow_add-result-4 c).Start in
-    omega (arith, a.priced, b.priced, a.bonds, b.bonds, s.requires.2)
+    omega (arith, a.priced, b.priced, a.bonds, b.bonds, c.requires.2)
 
 pub overflow_add-result-5 : goal.overflow_add-result-5
 overflow_add-result-5 c =
-    let s = c.before.before.before.before.before.before.before.before.before.before.before.before.before.before in
     let a = first (goal.at.overflow_add-result-5 c).Start in
     let b = second (goal.at.overflow_add-result-5 c).Start in
-    omega (arith, a.priced, b.priced, a.options, b.options, s.requires.2)
+    omega (arith, a.priced, b.priced, a.options, b.options, c.requires.2)
 
 pub overflow_add-result-6 : goal.overflow_add-result-6
 overflow_add-result-6 c =
-    let s = c.before.before.before.before.before.before.before.before.before.before.before.before.before.before.before.before in
     let a = first (goal.at.overflow_add-result-6 c).Start in
     let b = second (goal.at.overflow_add-result-6 c).Start in
-    omega (arith, a.priced, b.priced, a.error-bounds, b.error-bounds, s.requires.2)
+    omega (arith, a.priced, b.priced, a.error-bounds, b.error-bounds, c.requires.2)
 
 pub overflow_add-first : goal.overflow_add-first
 overflow_add-first c =
-    let s = c.before.before.before.before in
-    omega (arith, book-most s.args.second (second (goal.at.overflow_add-first c).Start), s.requires.2)
+    omega (arith, book-most c.args.second (second (goal.at.overflow_add-first c).Start), c.requires.2)
 
 pub returns : goal.returns
 unfolding sum_report

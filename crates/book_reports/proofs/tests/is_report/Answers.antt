@@ -37,5 +37,6 @@ is_counted-requires c =
 pub returns : goal.returns
 returns c =
     c.is_counted.ensures
-    ∙ counts-last _ c.if-report-gt-MOST_SIZE-2.false c.if-report.false c.if-report-2.false c.if-report-3.false c.if-report-4.false c.if-report-5.false c.if-report-6.false
+    ∙ counts-last _ c.if-report-gt-MOST_SIZE-2.false c.if-report.false c.if-report-2.false c.if-report-3.false c.if-report-4.false c.if-report-5.false
+    c.if-report-6.false
     (sym c.is_named.ensures ∙ c.if-not-is_named.false)

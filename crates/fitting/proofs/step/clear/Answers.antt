@@ -1,21 +1,7 @@
-use mathlib.Core.Path.{refl}
-use native.Mathlib.Omega.{arith}
-use borrow.Author.Rules.{rules}
-use Prim.Native.Nat.{◌-◌}
-use Rattle.arithmetic.proofs.RowLaws.{filled-start, filled_next, filled-all}
+use Rattle.std.proofs.Common.{ℕ, ◌∙◌}
+use lib.ListN.{length-replicate}
+use Rattle.arithmetic.proofs.RowLaws.{row_of, zeros}
 use Rattle.fitting.proofs.step.clear.Goals as goal
 
-pub loop-k-init : goal.loop-k-init
-loop-k-init c = (search rules, filled-start _ (λ j. 0))
-
-pub loop-k-smaller : goal.loop-k-smaller
-loop-k-smaller c = omega (arith, c.loop-k.invariant.1.same)
-
-pub loop-k-preserved : goal.loop-k-preserved
-loop-k-preserved c = (omega (arith, c.loop-k.invariant.1.same), filled_next {f = λ j. 0} c.loop-k.invariant.1 (search rules) refl)
-
-pub shape_of-next : goal.shape_of-next
-shape_of-next c = c.loop-k.invariant.1.same
-
 pub returns : goal.returns
-returns c = filled-all _ _ (λ j. 0) _ c.loop-k.invariant.1 (omega (arith, c.loop-k.invariant.1.same))
+returns c = c.fill.ensures.after (λ y h. h) ∙ row_of _ _ _ (length-replicate {A = ℕ} _ 0) (λ k _. zeros _ k)

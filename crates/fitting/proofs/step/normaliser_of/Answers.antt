@@ -1,42 +1,42 @@
-use mathlib.Core.Path.{◌≡◌, refl, ap, ◌∙◌}
-use native.Mathlib.Omega.{arith}
-use borrow.Author.Rules.{rules}
-use Prim.Native.Nat.{ℕ, ◌-◌, ◌/◌, ◌<◌}
-use lib.ListN.{length}
+use Rattle.std.proofs.Common.{◌≡◌, ◌∙◌, ℕ, ◌/◌, length, refl, ap, arith, rules, length-append}
+use Rattle.std.proofs.lemmas.Slice.Zip.{zip_turn, zip_end}
 use Rattle.arithmetic.specs.Rounding.{one}
 use Rattle.arithmetic.specs.Sum.{sum}
 use Rattle.fit_laws.specs.Step.{normaliser}
 use Rattle.fitting.proofs.StepRows as laws
 use Rattle.fitting.proofs.step.normaliser_of.Goals as goal
-use Rattle.fitting.proofs.step.normaliser_of.Goals.{In-loop-k}
 
-inside : (c : In-loop-k) → c.loop-k.k < length c.args.state_prices.now
-inside c = search rules
-
-pub loop-k-init : goal.loop-k-init
+pub loop-price-init : goal.loop-price-init
 unfolding sum
-loop-k-init c = (search rules, refl)
-
-pub bounds-factors-k : goal.bounds-factors-k
-bounds-factors-k c = omega (arith, c.requires.0.length-is)
+loop-price-init c = refl
 
 pub overflow_mul-total : goal.overflow_mul-total
 overflow_mul-total c =
-    let l = c.before.before in
-    omega (arith, laws.weighed-small l.args.state_prices.now l.args.factors.now l.requires.0 l.requires.1 l.loop-k.invariant.1 (inside (goal.at.overflow_mul-total c).In-loop-k))
+    let turn =
+    zip_turn c.args.state_prices.now c.args.factors.now c.loop-price.yielded c.into_iter-price-iterator.result c.loop-price.price-iterator
+    c.next.new.self c.next.result (search rules) (search rules) c.loop-price.yielded_by _ c.in-Some.is c.next.ensures.steps in
+    rw (turn.2 0, turn.3 0) (omega (arith, laws.weighed-small _ _ c.requires.0 c.requires.1 c.loop-price.invariant turn.0))
 
 pub overflow_add-total : goal.overflow_add-total
 overflow_add-total c =
-    let l = c.before.before in
-    omega (arith, laws.weighed-small l.args.state_prices.now l.args.factors.now l.requires.0 l.requires.1 l.loop-k.invariant.1 (inside (goal.at.overflow_add-total c).In-loop-k))
+    let turn =
+    zip_turn c.args.state_prices.now c.args.factors.now c.loop-price.yielded c.into_iter-price-iterator.result c.loop-price.price-iterator
+    c.next.new.self c.next.result (search rules) (search rules) c.loop-price.yielded_by _ c.in-Some.is c.next.ensures.steps in
+    rw (turn.2 0, turn.3 0) (omega (arith, laws.weighed-small _ _ c.requires.0 c.requires.1 c.loop-price.invariant turn.0))
 
-pub loop-k-preserved : goal.loop-k-preserved
-loop-k-preserved c =
-    let l = c.before.before in
-    (omega arith, laws.weighed-next l.args.state_prices.now l.args.factors.now l.requires.0 l.requires.1 l.loop-k.invariant.1 (inside (goal.at.loop-k-preserved c).In-loop-k))
+pub loop-price-preserved : goal.loop-price-preserved
+loop-price-preserved c =
+    let turn =
+    zip_turn c.args.state_prices.now c.args.factors.now c.loop-price.yielded c.into_iter-price-iterator.result c.loop-price.price-iterator
+    c.next.new.self c.next.result (search rules) (search rules) c.loop-price.yielded_by _ c.in-Some.is c.next.ensures.steps in
+    simp length-append
+    (rw (turn.2 0, turn.3 0) (laws.weighed-next _ _ c.requires.0 c.requires.1 c.loop-price.invariant turn.0))
 
 pub returns : goal.returns
 unfolding normaliser
 returns c =
-    let e : c.loop-k.k ≡ length c.args.state_prices.now = omega arith in
-    ap (λ (x : ℕ). x / one) (c.loop-k.invariant.1 ∙ ap (laws.weighed c.args.state_prices.now c.args.factors.now) e)
+    let ended =
+    zip_end c.args.state_prices.now c.args.factors.now c.loop-price.yielded c.into_iter-price-iterator.result c.loop-price.price-iterator
+    c.next.new.self c.next.result (search rules) (search rules) c.loop-price.yielded_by c.in-None.is c.next.ensures.steps in
+    let all : length c.loop-price.yielded ≡ length c.args.state_prices.now = omega (arith, ended, c.requires.0.length-is) in
+    ap (λ (x : ℕ). x / one) (c.loop-price.invariant ∙ ap (laws.weighed c.args.state_prices.now c.args.factors.now) all)

@@ -7,6 +7,9 @@ pub fill_factors-requires : goal.fill_factors-requires
 fill_factors-requires c =
     (omega (arith, laws.widest-small c.requires.0), c.requires.0.spacing-within-one, c.requires.1)
 
+pub unwrap-requires : goal.unwrap-requires
+unwrap-requires c = laws.downs-ok c.requires.0 c.args.downs.now c.requires.2 c.down_probabilities.result c.down_probabilities.ensures.number
+
 pub fit_or_clear-requires : goal.fit_or_clear-requires
 fit_or_clear-requires c =
     let ready = c.requires.0 in

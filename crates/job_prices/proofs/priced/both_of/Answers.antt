@@ -30,8 +30,7 @@ slice_bounds-dates-end c = room (goal.at.slice_bounds-dates-end c).Start
 
 pub slice_bounds-bond_and_dated_option-end : goal.slice_bounds-bond_and_dated_option-end
 slice_bounds-bond_and_dated_option-end c =
-    let s = c.before.before.before.before.before.before in
-    lent-column s.args.option.dates s.args.option.count (room (goal.at.slice_bounds-bond_and_dated_option-end c).Start)
+    lent-column c.args.option.dates c.args.option.count (room (goal.at.slice_bounds-bond_and_dated_option-end c).Start)
 
 pub returns : goal.returns
 returns c =

@@ -1,11 +1,7 @@
-use mathlib.Core.Path.{◌≡◌}
-use Prim.Native.Nat.{ℕ, ◌-◌, ◌≤◌}
+use Rattle.std.proofs.Common.{◌≡◌, ℕ}
 use Rattle.arithmetic.specs.Sum.{greatest}
 use Rattle.pair_laws.specs.inside.Square.{cell}
 use Rattle.pair_pricing.proofs.squares.greatest_value.Given as goal
 
 abbrev pub invariant-loop-a : goal.invariant-loop-a
-invariant-loop-a l = (l.a ≤ l.lines) × (l.best ≡ greatest l.a (λ (t : ℕ). greatest l.width (λ (place : ℕ). cell l.square t place)))
-
-abbrev pub decreases-loop-a : goal.decreases-loop-a
-decreases-loop-a l = l.lines - l.a
+invariant-loop-a l = l.best ≡ greatest l.a (λ (t : ℕ). greatest l.width (λ (place : ℕ). cell l.square t place))

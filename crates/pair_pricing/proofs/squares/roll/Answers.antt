@@ -22,7 +22,5 @@ spread_side-requires c =
 
 pub returns : goal.returns
 returns c =
-    let spread-side = c.spread_side in
-    let rate-side = c.rate_side in
-    rolled-square _ c.args.square.now rate-side.new.middle _ c.args.flow c.requires.0 rate-side.ensures.1
-    spread-side.ensures.1
+    rolled-square _ c.args.square.now c.rate_side.new.middle _ c.args.flow c.requires.0 c.rate_side.ensures.1
+    c.spread_side.ensures.1

@@ -1,5 +1,4 @@
-use mathlib.Core.Path.{◌≡◌}
-use Prim.Native.Nat.{◌≤◌}
+use Rattle.std.proofs.Common.{◌≡◌}
 use Rattle.lattice.specs.RateTree.{rate_tree}
 use Rattle.lent_tree.specs.LentTree.{stored}
 use Rattle.pair_laws.specs.Pair.{pair_error_bound}
@@ -7,9 +6,6 @@ use Rattle.pair_pricing.proofs.walk.error_bound.Given as goal
 
 abbrev pub invariant-loop-row : goal.invariant-loop-row
 invariant-loop-row l =
-    (l.row ≤ l.trees.steps)
-    × (l.bound ≡ pair_error_bound (rate_tree l.trees.rate) (rate_tree l.trees.spread) (stored l.trees.rate l.rates) (stored l.trees.spread l.spreads)
-    l.trees.steps l.row)
-
-abbrev pub decreases-loop-row : goal.decreases-loop-row
-decreases-loop-row l = l.row
+    l.bound
+    ≡ pair_error_bound (rate_tree l.trees.rate) (rate_tree l.trees.spread) (stored l.trees.rate l.rates) (stored l.trees.spread l.spreads)
+    l.trees.steps l.row

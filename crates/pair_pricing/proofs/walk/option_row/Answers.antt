@@ -18,16 +18,13 @@ exercise_square-requires c = (
 
 pub returns : goal.returns
 returns c =
-    let exercise-square = c.exercise_square in
-    let lines_of = c.lines_of in
-    let roll-row = c.roll_row in
     let t = c.args.trees in
     let m = c.args.terms in
     record {
       rolled = option-from t.rate t.spread c.args.row _ c.args.listed m.call m.strike c.args.flow _
-          roll-row.new.memory
+          c.roll_row.new.memory
           c.args.bond.now
           (roll_of t.rate t.spread c.args.rates.now c.args.spreads.now c.args.row (square c.args.option.now))
-          (omega (arith, c.requires.0.few, c.requires.2)) lines_of.ensures exercise-square.ensures roll-row.ensures;
+          (omega (arith, c.requires.0.few, c.requires.2)) c.lines_of.ensures c.exercise_square.ensures c.roll_row.ensures;
       found = c.greatest_of_row.ensures;
     }

@@ -1,4 +1,3 @@
-use Prim.Native.Nat.{◌-◌, ◌≤◌}
 use Rattle.exercise.specs.Terms.{side}
 use Rattle.pricing_laws.specs.inside.Marks.{marked}
 use Rattle.pair_laws.specs.inside.States.{Bonds, Options}
@@ -6,8 +5,6 @@ use Rattle.pair_pricing.proofs.walk.roll_both.Given as goal
 
 abbrev pub invariant-loop-row : goal.invariant-loop-row
 invariant-loop-row l =
-    (l.row ≤ l.terms.last) × Bonds l.trees.steps l.trees.rate l.trees.spread l.rates l.spreads l.flows l.row l.bond
-    × Options l.trees.steps l.trees.rate l.trees.spread l.rates l.spreads l.flows (side l.terms.call) l.terms.strike (marked l.terms.last l.marks) l.row l.option
-
-abbrev pub decreases-loop-row : goal.decreases-loop-row
-decreases-loop-row l = l.row
+    Bonds l.trees.steps l.trees.rate l.trees.spread l.rates l.spreads l.flows l.row l.bond
+    × Options l.trees.steps l.trees.rate l.trees.spread l.rates l.spreads l.flows (side l.terms.call) l.terms.strike
+    (marked l.terms.last l.marks) l.row l.option

@@ -12,17 +12,13 @@ returns-then-number-ne0 c =
 
 pub roll_both-requires : goal.roll_both-requires
 roll_both-requires c =
-    let expiry-row = c.expiry_row in
-    let flow-of = c.flow_of in
-    let if1 = c.if-number-ne0 in
-    let roll-bond = c.roll_bond-number in
     let t = c.args.trees in
     let m = c.args.terms in
-    let held = c.roll_bond-number.ensures.held if1.false in (
+    let held = c.roll_bond-number.ensures.held c.if-number-ne0.false in (
       c.requires.0,
       c.requires.1,
       c.requires.2,
       held,
       options-marked t.steps t.rate t.spread c.args.rates.now c.args.spreads.now c.args.flows.now c.requires.0
-          (side m.call) m.strike m.last c.args.marks.now _ _ _ c.requires.2.strike-most flow-of.ensures held expiry-row.ensures,
+          (side m.call) m.strike m.last c.args.marks.now _ _ _ c.requires.2.strike-most c.flow_of.ensures held c.expiry_row.ensures,
     )

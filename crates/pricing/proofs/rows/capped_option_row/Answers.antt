@@ -22,14 +22,13 @@ inner-second-requires c =
 
 pub option_nodes-middle-requires : goal.option_nodes-middle-requires
 option_nodes-middle-requires c =
-    let first = c.option_nodes-low in
-    let done = rw c.lowest-first.ensures at first.ensures in
+    let done = rw c.lowest-first.ensures at c.option_nodes-low.ensures in
     rw c.inner-second.ensures (
       c.requires.0,
       c.requires.1,
       c.requires.2,
-      omega (arith, first.auto.bond, c.requires.3),
-      omega (arith, first.auto.option, c.requires.4),
+      omega (arith, c.option_nodes-low.auto.bond, c.requires.3),
+      omega (arith, c.option_nodes-low.auto.option, c.requires.4),
       c.requires.5,
       leads-inner _ _ _ c.requires.0 c.requires.6,
       done,
@@ -41,15 +40,13 @@ highest-last-requires c =
 
 pub option_nodes-requires : goal.option_nodes-requires
 option_nodes-requires c =
-    let first = c.option_nodes-low in
-    let second = c.option_nodes-middle in
-    let done = rw c.inner-second.ensures at second.ensures in
+    let done = rw c.inner-second.ensures at c.option_nodes-middle.ensures in
     rw c.highest-last.ensures (
       c.requires.0,
       c.requires.1,
       c.requires.2,
-      omega (arith, first.auto.bond, second.auto.bond, c.requires.3),
-      omega (arith, first.auto.option, second.auto.option, c.requires.4),
+      omega (arith, c.option_nodes-low.auto.bond, c.option_nodes-middle.auto.bond, c.requires.3),
+      omega (arith, c.option_nodes-low.auto.option, c.option_nodes-middle.auto.option, c.requires.4),
       c.requires.5,
       leads-highest _ _ _ c.requires.0 c.requires.6,
       done,

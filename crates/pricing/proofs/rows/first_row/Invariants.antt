@@ -1,5 +1,4 @@
-use Prim.Native.Nat.{ℕ, ◌-◌, ◌≤◌}
-use lib.ListN.{length}
+use Prim.Native.Nat.{ℕ}
 use Rattle.arithmetic.specs.Row.{values}
 use Rattle.arithmetic.proofs.RowLaws.{Filled}
 use Rattle.pricing_laws.specs.Pricer.{exercise}
@@ -7,8 +6,4 @@ use Rattle.exercise.specs.Terms.{side}
 use Rattle.pricing.proofs.rows.first_row.Given as goal
 
 abbrev pub invariant-loop-k : goal.invariant-loop-k
-invariant-loop-k l =
-    (l.k ≤ length l.bare) × Filled l.initial.option l.option (λ (j : ℕ). exercise (side l.call) l.strike (values l.bare j)) l.k
-
-abbrev pub decreases-loop-k : goal.decreases-loop-k
-decreases-loop-k l = length l.bare - l.k
+invariant-loop-k l = Filled l.initial.option l.option (λ (j : ℕ). exercise (side l.call) l.strike (values l.bare j)) l.k

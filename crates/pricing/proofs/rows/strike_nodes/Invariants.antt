@@ -1,4 +1,3 @@
-use Prim.Native.Nat.{◌-◌, ◌≤◌}
 use Rattle.exercise.specs.Terms.{side}
 use Rattle.pricing.specs.inside.Strips.{strike_values}
 use Rattle.pricing.proofs.RowSteps.{Row-state}
@@ -6,7 +5,4 @@ use Rattle.pricing.proofs.rows.strike_nodes.Given as goal
 
 abbrev pub invariant-loop-k : goal.invariant-loop-k
 invariant-loop-k l =
-    (l.initial.k ≤ l.k) × (l.k ≤ l.to) × Row-state l.initial.option l.option (strike_values (side l.call) l.strike l.listed l.bare l.options l.downs l.discounts l.next) l.top l.k
-
-abbrev pub decreases-loop-k : goal.decreases-loop-k
-decreases-loop-k l = l.to - l.k
+    Row-state l.initial.option l.option (strike_values (side l.call) l.strike l.listed l.bare l.options l.downs l.discounts l.fn.span.next) l.top l.k

@@ -41,14 +41,12 @@ overflow_sub-count c = let f = fits (goal.at.overflow_sub-count c).After-edge_no
 pub strike_edge-requires : goal.strike_edge-requires
 strike_edge-requires c =
     let f = fits (goal.at.strike_edge-requires c).After-edge_nodes-edge in
-    let first = c.strike_edge-low in
-    let second = c.strike_nodes-inner in
     let done = rw c.between_edges-span.ensures at
     c.strike_nodes-inner.ensures in (
       c.requires.0,
       c.requires.1,
       c.requires.2,
-      omega (arith, first.auto.option, second.auto.option, c.requires.3),
+      omega (arith, c.strike_edge-low.auto.option, c.strike_nodes-inner.auto.option, c.requires.3),
       f.0,
       omega
           (arith, f.1),

@@ -11,42 +11,38 @@ use Rattle.pricing.proofs.strips.strike_price.Goals.{After-lowest_cause-cause}
 cause : (c : After-lowest_cause-cause) → let a = c.args in
     c.lowest_cause-cause.result ≡ dated_cause a.shared.steps a.shared.side a.dates.now a.strike
 cause c =
-    dated-cause-is _ _ _ _ c.terms_cause-about_terms.ensures c.requires.list-is c.lowest_cause-cause.ensures
+    dated-cause-is _ _ _ _ (c.cause-about_terms.ensures ∙ c.terms_cause.ensures) c.requires.list-is c.lowest_cause-cause.ensures
 
 pub returns-then-cause-ne0 : goal.returns-then-cause-ne0
 returns-then-cause-ne0 c =
-    let c₁ = c.before.before in
     c.refused.ensures
-    ∙ strike-refused implied c₁.requires.none (cause (goal.at.returns-then-cause-ne0 c).After-lowest_cause-cause) c.if-cause-ne0.true
+    ∙ strike-refused implied c.requires.none (cause (goal.at.returns-then-cause-ne0 c).After-lowest_cause-cause) c.if-cause-ne0.true
 
 pub returns-then-shared-ne0 : goal.returns-then-shared-ne0
 returns-then-shared-ne0 c =
-    let c₂ = c.before in
-    let ready = c₂.requires.ready in
+    let ready = c.requires.ready in
     c.refused-then-shared-ne0.ensures
-    ∙ bond-refuses implied c₂.requires.none (cause (goal.at.returns-then-shared-ne0 c).After-lowest_cause-cause) c.if-cause-ne0.false ready.tree.limits.steps-within-limit refl
-    c₂.requires.marks-are ready.tree ready.paid c₂.requires.bond-is.cause c.if-shared-ne0.true
+    ∙ bond-refuses implied c.requires.none (cause (goal.at.returns-then-shared-ne0 c).After-lowest_cause-cause) c.if-cause-ne0.false
+    ready.tree.limits.steps-within-limit refl c.requires.marks-are ready.tree ready.paid c.requires.bond-is.cause c.if-shared-ne0.true
 
 pub roll_strike-rolled-requires : goal.roll_strike-rolled-requires
 roll_strike-rolled-requires c =
-    let c₂ = c.before in
-    let ready = c₂.requires.ready in
+    let ready = c.requires.ready in
     let on =
-    exercisable {bound = c₂.args.shared.bound} implied c₂.requires.none (cause (goal.at.roll_strike-rolled-requires c).After-lowest_cause-cause) c.if-cause-ne0.false ready.tree.limits.steps-within-limit
-    c.terms_on-terms.ensures c₂.requires.marks-are in
-    (ready, on.0, on.1, kept-through c₂.requires.bond-is c.if-shared-ne0.false, c₂.requires.room)
+    exercisable {bound = c.args.shared.bound} implied c.requires.none
+    (cause (goal.at.roll_strike-rolled-requires c).After-lowest_cause-cause) c.if-cause-ne0.false ready.tree.limits.steps-within-limit
+    c.terms_on-terms.ensures c.requires.marks-are in
+    (ready, on.0, on.1, kept-through c.requires.bond-is c.if-shared-ne0.false, c.requires.room)
 
 pub returns-then-rolled-ne0 : goal.returns-then-rolled-ne0
 returns-then-rolled-ne0 c =
-    let c₄ = c.before in
-    let ready = c₄.requires.ready in
+    let ready = c.requires.ready in
     c.refused-then-rolled-ne0.ensures
-    ∙ rolled-refuses implied c₄.requires.none (cause (goal.at.returns-then-rolled-ne0 c).After-lowest_cause-cause) c.if-cause-ne0.false
-    ready.tree.limits.steps-within-limit c.terms_on-terms.ensures c₄.requires.marks-are c.roll_strike-rolled.ensures c.if-rolled-ne0.true
+    ∙ rolled-refuses implied c.requires.none (cause (goal.at.returns-then-rolled-ne0 c).After-lowest_cause-cause) c.if-cause-ne0.false
+    ready.tree.limits.steps-within-limit c.terms_on-terms.ensures c.requires.marks-are c.roll_strike-rolled.ensures c.if-rolled-ne0.true
 
 pub returns : goal.returns
 returns c =
-    let c₄ = c.before in
-    let ready = c₄.requires.ready in
-    rolled-gives implied c₄.requires.none (cause (goal.at.returns c).After-lowest_cause-cause) c.if-cause-ne0.false
-    ready.tree.limits.steps-within-limit c.terms_on-terms.ensures c₄.requires.marks-are c.roll_strike-rolled.ensures c.if-rolled-ne0.false
+    let ready = c.requires.ready in
+    rolled-gives implied c.requires.none (cause (goal.at.returns c).After-lowest_cause-cause) c.if-cause-ne0.false
+    ready.tree.limits.steps-within-limit c.terms_on-terms.ensures c.requires.marks-are c.roll_strike-rolled.ensures c.if-rolled-ne0.false

@@ -1,6 +1,6 @@
 use mathlib.Core.List.{List}
-use Prim.Native.Nat.{ℕ, ◌-◌, ◌≤◌}
-use lib.ListN.{length, replicate}
+use Prim.Native.Nat.{ℕ}
+use lib.ListN.{replicate}
 use Rattle.arithmetic.proofs.RowLaws.{Filled}
 use Rattle.price_laws.specs.declared.Price.{Price}
 use Rattle.pricing.specs.declared.strips.Shared.{Shared}
@@ -14,11 +14,6 @@ price shared dates discounts flows strikes =
 
 abbrev pub invariant-loop-k : goal.invariant-loop-k
 invariant-loop-k l =
-    (l.k ≤ length l.strikes)
-    × Filled (replicate most_strikes 0) l.numbers (λ (j : ℕ). (price l.shared l.dates l.discounts l.flows l.strikes j).number) l.k
+    Filled (replicate most_strikes 0) l.numbers (λ (j : ℕ). (price l.shared l.dates l.discounts l.flows l.strikes j).number) l.k
     × Filled (replicate most_strikes 0) l.values (λ (j : ℕ). (price l.shared l.dates l.discounts l.flows l.strikes j).value) l.k
     × Filled (replicate most_strikes 0) l.bounds (λ (j : ℕ). (price l.shared l.dates l.discounts l.flows l.strikes j).bound) l.k
-
-abbrev pub decreases-loop-k : goal.decreases-loop-k
-decreases-loop-k l =
-    length l.strikes - l.k

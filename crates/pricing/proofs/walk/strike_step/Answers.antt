@@ -1,11 +1,6 @@
-use mathlib.Core.Path.{◌≡◌}
 use native.Mathlib.Omega.{arith}
-use lib.ListN.{length}
-use Rattle.limits.specs.Limits.{most_nodes}
 use Rattle.pricing.proofs.StepParts.{table-room, discount-room, kept-room, later-next, part-within, part-beside, part-rollable, part-strike}
-use borrow.Author.Rules.{rules}
 use Rattle.pricing.proofs.walk.strike_step.Goals as goal
-use Rattle.pricing.proofs.walk.strike_step.Goals.{After-strike_row-arg-1, After-strike_row-arg-2-1}
 
 pub part-requires : goal.part-requires
 part-requires c =
@@ -22,23 +17,15 @@ part-requires-3 c =
     let ready = c.requires.0 in
     kept-room _ _ _ _ ready.tree ready.inside _ c.row_shape-shape.ensures c.args.kept.now c.requires.2
 
--- both rows are whole
-options-long : (c : After-strike_row-arg-1) → length c.args.options.now ≡ most_nodes
-options-long c = search rules
-
-option-long : (c : After-strike_row-arg-2-1) →
-    length c.args.option.now ≡ most_nodes
-option-long c = search rules
-
 pub strike_row-requires : goal.strike_row-requires
 strike_row-requires c =
     let ready = c.requires.0 in
     let e = c.row_shape-shape.ensures in
     let d = c.part-2.ensures in (
       part-rollable _ _ _ _ ready.tree ready.inside _ e _ d _ ready.table _ c.part.ensures,
-      later-next _ _ _ _ ready.tree ready.inside _ e _ (options-long (goal.at.strike_row-requires c).After-strike_row-arg-1) c.requires.1,
+      later-next _ _ _ _ ready.tree ready.inside _ e _ (omega arith) c.requires.1,
       part-beside _ _ _ _ ready.tree ready.inside _ e _ d _ _ c.requires.2 c.part-3.ensures,
-      omega (arith, part-within _ _ _ _ ready.tree ready.inside _ e _ d, option-long c),
+      omega (arith, part-within _ _ _ _ ready.tree ready.inside _ e _ d),
     )
 
 pub returns : goal.returns

@@ -6,9 +6,7 @@ use Rattle.sheet_laws.specs.TreeSheet.{nodes_of_row}
 use Rattle.node_lines.proofs.LineLoop.{Progress}
 use Rattle.record_sheet.proofs.lines.put_node_rows.Given as goal
 
-abbrev pub invariant-loop-left : goal.invariant-loop-left
-invariant-loop-left l =
-    Progress (nodes_of_row l.reversion l.discounts) (λ (i : ℕ). longest_line * row_start l.reversion i) l.initial.out l.end l.steps l.out l.start l.left × (l.place ≡ row_start l.reversion l.left)
-
-abbrev pub decreases-loop-left : goal.decreases-loop-left
-decreases-loop-left l = l.left
+abbrev pub invariant-loop-row : goal.invariant-loop-row
+invariant-loop-row l =
+    Progress (nodes_of_row l.reversion l.discounts) (λ (i : ℕ). longest_line * row_start l.reversion i) l.initial.out l.end l.steps l.out l.start l.row
+    × (l.place ≡ row_start l.reversion l.row)

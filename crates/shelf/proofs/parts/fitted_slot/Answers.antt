@@ -9,4 +9,4 @@ returns c =
     let a = c.args in
     let t = a.tree in
     let lent = ap (tree_bounds_answer t.steps t.reversion) (lent-part a.memory.now t.start t.count) in
-    fitted-is _ _ _ _ (c.tree_bounds-found.ensures ∙ lent)
+    fitted-is _ _ _ _ (c.from-found.ensures ∙ c.tree_bounds.ensures ∙ lent)

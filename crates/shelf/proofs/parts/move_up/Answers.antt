@@ -1,26 +1,20 @@
-use mathlib.Core.Path.{◌≡◌}
-use Prim.Native.Nat.{suc, ◌-◌}
-use lib.ListN.{length-set}
-use native.Mathlib.Omega.{arith}
-use Rattle.shelf_laws.proofs.Moves.{up_start, up_step}
-use borrow.Author.Rules.{rules}
+use Rattle.std.proofs.Common.{◌≡◌, ◌++◌, ◌+◌, ◌-◌, ◌≤◌, ◌∙◌, ℕ, List, length, take, drop, arith, sym, ap}
+use Rattle.std.proofs.lemmas.List.{drop-take}
+use Rattle.std.proofs.Math.ListN.{drop_of_length-le}
+use mathlib.Core.List.{append-nil}
 use Rattle.shelf.proofs.parts.move_up.Goals as goal
 
-pub loop-k-init : goal.loop-k-init
-loop-k-init c = (search rules, search rules, search rules, up_start c.args.memory.now c.args.count (omega arith))
-
-pub loop-k-preserved : goal.loop-k-preserved
-loop-k-preserved c =
-    let a = c.args in
-    let l = c.loop-k in
-    let e : suc (l.k - 1) ≡ l.k = omega arith in (
-      search rules,
-      search rules,
-      simp length-set (search rules),
-      up_step a.memory.now a.count (omega arith) l.memory (l.k - 1) (omega arith) (rw e l.invariant.3),
-    )
+-- what was moved up ends where the memory does
+moved-up : (m front : List ℕ) (at count n end : ℕ) → at + n ≡ length m - count → length m ≤ end →
+    (front ++ take n (drop at m)) ++ drop end m ≡ front ++ drop at (take (length m - count) m)
+moved-up m front at count n end e past =
+    ap (λ (l : List ℕ). (front ++ take n (drop at m)) ++ l) (drop_of_length-le m {i = end} past)
+    ∙ append-nil (front ++ take n (drop at m))
+    ∙ ap (λ (l : List ℕ). front ++ l) (sym (drop-take at n m) ∙ ap (λ (k : ℕ). drop at (take k m)) e)
 
 pub returns : goal.returns
 returns c =
-    let e : c.loop-k.k ≡ c.args.at = omega arith in
-    rw (← e) c.loop-k.invariant.3
+    let a = c.args in
+    let rest = length a.memory.now - a.count - a.at in
+    c.copy_within.ensures.after
+    ∙ moved-up a.memory.now (take (a.at + a.count) a.memory.now) a.at a.count rest (a.at + a.count + rest) (omega arith) (omega arith)
