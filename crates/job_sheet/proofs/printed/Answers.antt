@@ -31,7 +31,8 @@ pub overflow_sub-result : goal.overflow_sub-result
 overflow_sub-result c =
     let a = c.args in
     let s = (goal.at.overflow_sub-result c).After-sheet-written in
-    laws.size-within a.job.now a.out.now _ _ _ (rw c.in-Ok.is at (number_is s)) (rw c.in-Ok.is at (size_is s)) c.sheet-written.ensures.memory refl (search rules)
+    laws.size-within a.job.now a.out.now _ _ _ (rw c.in-Ok.is at (number_is s)) (rw c.in-Ok.is at (size_is s)) c.sheet-written.ensures.memory refl
+    (search rules)
 
 pub returns-in-Ok : goal.returns-in-Ok
 returns-in-Ok c =
