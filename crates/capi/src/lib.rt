@@ -59,12 +59,12 @@ use bands::Verdict;
 use book_laws::BookText;
 use job_laws::JobPrices;
 use job_record::{Job, Reading};
-use job_sheet::Written;
 use lattice::Branches;
 use lending::Worth;
 use price_bound::TreeErrorBounds;
 use price_laws::{BondAndOption, Price, Strip};
 use quotes::Point;
+use record_sheet::Written;
 use report_laws::{Joined, Report};
 use row_view::RowRange;
 use shelf_laws::{Part, Shelf, Shelved};
@@ -415,7 +415,7 @@ pub extern "C" fn mixegorta_sheet(job: &[u8], out: &mut [u8]) -> Written
     ensures answer { result ≡ answer_of (sheet_number job.now (length out.old)) (sheet_text job.now) }
     ensures memory { out.new ≡ sheet_memory job.now out.old }
 {
-    job_sheet::sheet(job, out)
+    Written::from(job_sheet::sheet(job, out))
 }
 
 // The tree of the job stands at the start of both memories where nothing is refused.
