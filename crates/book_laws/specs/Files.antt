@@ -1,7 +1,8 @@
 -- A file of jobs: fields of tag 10 (hex) one after the other, at most 500, each a two-byte length, high byte first, and as many bytes of data.
 -- What cannot be taken so breaks the file.
 -- Assumes nothing.
-use Rattle.std.specs.Prelude.{ℕ, zero, suc, ◌+◌, ◌*◌, ◌/◌, ◌%◌, Bool, cond, ◌&&◌, List, [], ◌∷◌, ◌++◌, eqb, leb, length, get_or, take, drop, true, false, Option, None, Some}
+use Rattle.std.specs.Prelude.{ℕ, zero, suc, ◌+◌, ◌*◌, ◌/◌, ◌%◌, Bool, cond, ◌&&◌, List, [], ◌∷◌, ◌++◌, eqb, leb, length, get_or, take, drop}
+use Rattle.std.specs.Prelude.{true, false, Option, None, Some}
 use Rattle.book_laws.specs.declared.Book.{Book}
 use Rattle.book_laws.specs.Books.{most_fields, empty_book, with_field, with_fields, closed_book}
 
