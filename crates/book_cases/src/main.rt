@@ -3,9 +3,10 @@
 #![tactic(auto)]
 
 fn write_report(file: &[u8], room: &mut [u8]) {
-    let written = book_report::report(file, room);
-    let start = room.len() - written.size;
-    io::write_all(1, &room[start..]);
+    if let Ok(size) = book_report::report(file, room) {
+        let start = room.len() - size;
+        io::write_all(1, &room[start..]);
+    }
 }
 
 // Writes the report of the file at a place of the input, and answers the place behind it; 0 where there is none.

@@ -462,7 +462,7 @@ pub extern "C" fn mixegorta_book_report(file: &[u8], out: &mut [u8]) -> BookText
     ensures answer { result ≡ lines_answer (book_lines (file_book file.now)) (length out.old) }
     ensures memory { out.new ≡ lines_memory (book_lines (file_book file.now)) out.old }
 {
-    book_report::report(file, out)
+    BookText::from(book_report::report(file, out))
 }
 
 // ---- reports of books that add up
@@ -485,7 +485,7 @@ pub extern "C" fn mixegorta_report_of_file(file: &[u8]) -> Report
 pub extern "C" fn mixegorta_joined_reports(first: Report, second: Report) -> Joined
     ensures { result ≡ joined_report first second }
 {
-    book_reports::joined(first, second)
+    Joined::from(book_reports::joined(first, second))
 }
 
 // ---- a shelf of trees

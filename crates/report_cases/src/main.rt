@@ -70,8 +70,7 @@ fn write_report(room: &mut [u8], report: Report) {
 
 // A join that is refused is the empty report.
 fn sum_of(first: Report, second: Report) -> Report {
-    let joined = book_reports::joined(first, second);
-    joined.report
+    book_reports::joined(first, second).unwrap_or(book_reports::empty())
 }
 
 fn with_report(totals: Totals, report: Report) -> Totals {
