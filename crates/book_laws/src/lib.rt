@@ -27,7 +27,7 @@ pub struct Book {
     pub place: u64,
 }
 
-// The lines of a book as C sees them: they stand at the end of the lent room and are so many bytes long; a refusal's number with a zero.
+// The lines of a book, which stand at the end of the lent room and are so many bytes long; a refusal's number with a zero.
 #[repr(C)]
 #[derive(Drop)]
 pub struct BookText {

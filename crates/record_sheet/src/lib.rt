@@ -19,7 +19,7 @@ use job_laws::JobPrices;
 use job_record::Job;
 use sheet_room::SHEET_ROOM;
 
-// A sheet as C sees it: it stands at the end of the lent room and is so many bytes long; a refusal's number with a zero.
+// A sheet that stands at the end of the lent room and is so many bytes long; a refusal's number with a zero.
 #[repr(C)]
 #[derive(Drop)]
 pub struct Written {

@@ -45,7 +45,7 @@ pub fn empty() -> Report
     }
 }
 
-// A join as C sees it: number 0 and a report, or a refusal's number with the empty report.
+// Number 0 and a report, or a refusal's number with the empty report.
 #[repr(C)]
 #[derive(Drop)]
 pub struct Joined {
