@@ -122,31 +122,12 @@ fn show_table(bytes: &[u8]) {
     show_worths(firsts, lasts, lowests, highests, haircuts, rows, prices);
 }
 
-// Shows the table at a place of the input, and answers the place behind it; 0 where there is none.
-fn show_next(input: &[u8], at: usize) -> usize {
-    let frame = frames::frame_at(input, at);
-    if !frame.found {
-        return 0;
-    }
-    let start = frame.start;
-    let end = start + frame.size;
-    show_table(&input[start..end]);
-    end
-}
-
-// There are fewer frames than bytes.
-fn show_all(input: &[u8]) {
-    let mut at = 0usize;
-    for _ in 0..input.len() {
-        at = show_next(input, at);
-        if at == 0 {
-            return;
-        }
-    }
-}
-
 fn main() {
     let mut input = frames::input_room();
     let count = io::read_full(0, &mut input);
-    show_all(&input[..count]);
+    let mut rest = &input[..count];
+    while let Some((table, after)) = frames::split_frame(rest) {
+        show_table(table);
+        rest = after;
+    }
 }

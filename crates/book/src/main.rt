@@ -25,15 +25,13 @@ fn next_field(
     if count == 0 {
         return Step { book, more: false };
     }
-    let field = book_report::head_of(&head[..count]);
-    let size = field.size;
-    if !field.sound {
+    let Some(size) = book_report::head_of(&head[..count]) else {
         let ended = book_fields::broken(book);
         return Step {
             book: ended,
             more: false,
         };
-    }
+    };
     let got = io::read_full(0, &mut buffer[..size]);
     if got < size {
         let ended = book_fields::broken(book);
@@ -72,7 +70,8 @@ fn main() {
     let mut buffer = io::large_buffer();
     let book = read_book(&mut buffer);
     let mut room = io::buffer();
-    let written = book_lines::lines(book, &mut room);
-    let start = room.len() - written.size;
-    io::write_all(1, &room[start..]);
+    if let Ok(size) = book_lines::lines(book, &mut room) {
+        let start = room.len() - size;
+        io::write_all(1, &room[start..]);
+    }
 }

@@ -10,9 +10,8 @@ use lib.Dec.{leb}
 use lib.ListN.{length, get_or, take, drop, length-drop}
 use lib.Seq.{take-length, drop-drop}
 use Rattle.book_laws.specs.declared.Book.{Book}
-use Rattle.book_laws.specs.declared.Head.{Head}
 use Rattle.book_laws.specs.Books.{most_fields, empty_book, with_field, with_fields, closed_book}
-use Rattle.book_laws.specs.Files.{head_sound, field_size, head_of, starts_whole, first_job, after_first, jobs_of, rest_of, file_book, streamed}
+use Rattle.book_laws.specs.Files.{Head, head_sound, field_size, head_of, starts_whole, first_job, after_first, jobs_of, rest_of, file_book, streamed}
 use Rattle.book_laws.specs.inside.Files.{field_end}
 
 -- ---- the book of the jobs, closed by what is left, is what a program gives that goes field by field

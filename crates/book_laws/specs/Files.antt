@@ -2,8 +2,8 @@
 -- What cannot be taken so breaks the file.
 -- Assumes nothing.
 use Rattle.std.specs.Prelude.{ℕ, zero, suc, ◌+◌, ◌*◌, ◌/◌, ◌%◌, Bool, cond, ◌&&◌, List, [], ◌∷◌, ◌++◌, eqb, leb, length, get_or, take, drop}
+use Rattle.std.specs.Prelude.{true, false, Option, None, Some}
 use Rattle.book_laws.specs.declared.Book.{Book}
-use Rattle.book_laws.specs.declared.Head.{Head}
 use Rattle.book_laws.specs.Books.{most_fields, empty_book, with_field, with_fields, closed_book}
 
 -- the three bytes of a field's head, and its length
@@ -12,6 +12,15 @@ head_sound file = leb 3 (length file) && eqb (get_or file 0 0) 16
 
 unfoldable pub field_size : List ℕ → ℕ
 field_size file = get_or file 1 0 * 256 + get_or file 2 0
+
+-- a head: whether it is whole and of tag 10 (hex), and then the length of its data; and the same of a length that may not be there
+pub record Head : Type 0 where
+  pub sound : Bool
+  pub size : ℕ
+
+abbrev pub head_with : Option ℕ → Head
+head_with None = record { sound = false; size = 0 }
+head_with (Some size) = record { sound = true; size = size }
 
 unfoldable pub head_of : List ℕ → Head
 head_of file = record { sound = head_sound file; size = cond (head_sound file) (field_size file) 0 }

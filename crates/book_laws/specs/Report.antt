@@ -1,7 +1,9 @@
 -- The lines of a book (document 02, request (xiv)): eighteen, at the end of a lent room of at least 128 bytes a line.
 -- Assumes nothing.
-use Rattle.std.specs.Prelude.{ℕ, zero, suc, cond, List, [], ◌∷◌, ◌++◌, ltb, length}
+use Rattle.std.specs.Prelude.{ℕ, zero, suc, cond, List, [], ◌∷◌, ◌++◌, ltb, length, Result, Ok, Err}
 use Rattle.arithmetic.specs.Row.{values}
+use Rattle.arithmetic.specs.Refusals.{number_of}
+use Rattle.arithmetic.specs.declared.Refusal.{Refusal}
 use Rattle.text_laws.specs.Lines.{refused_word}
 use Rattle.text_laws.specs.Put.{put_before}
 use Rattle.text_laws.specs.WordLines.{whole_line, pair_line, amount_line}
@@ -51,6 +53,11 @@ book_room = 2304
 -- the lines stand at the end of the lent room and are so long; a refusal leaves the room as it was
 unfoldable pub lines_answer : List ℕ → ℕ → BookText
 lines_answer text room = cond (ltb room book_room) (record { number = 6; size = 0 }) (record { number = 0; size = length text })
+
+-- the length of lines that may be refused, as C sees it
+abbrev pub text_of : Result ℕ Refusal → BookText
+text_of (Ok size) = record { number = 0; size = size }
+text_of (Err refusal) = record { number = number_of refusal; size = 0 }
 
 unfoldable pub lines_memory : List ℕ → List ℕ → List ℕ
 lines_memory text out = cond (ltb (length out) book_room) out (put_before out (length out) text)

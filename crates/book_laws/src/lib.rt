@@ -1,6 +1,11 @@
 // Definitions and laws of a book of jobs: what its fields add to it, what a file gives, and its lines.
 #![tactic(auto)]
 
+ghost use Rattle.std.specs.Prelude.{◌≡◌};
+ghost use Rattle.book_laws.specs.Report.{text_of};
+
+use arithmetic::Refusal;
+
 // A file has at most so many fields.
 pub const MOST_FIELDS: u64 = 500;
 
@@ -22,18 +27,24 @@ pub struct Book {
     pub place: u64,
 }
 
-// The head of a field: whether it is whole and of tag 10 (hex), and then the length of its data.
-#[repr(C)]
-#[derive(Drop)]
-pub struct Head {
-    pub sound: bool,
-    pub size: usize,
-}
-
 // The lines of a book, which stand at the end of the lent room and are so many bytes long; a refusal's number with a zero.
 #[repr(C)]
 #[derive(Drop)]
 pub struct BookText {
     pub number: u64,
     pub size: usize,
+}
+
+impl From<Result<usize, Refusal>> for BookText {
+    ghost from_gives = { λ outcome text. text ≡ text_of outcome };
+
+    fn from(outcome: Result<usize, Refusal>) -> BookText {
+        match outcome {
+            Ok(size) => BookText { number: 0, size },
+            Err(refusal) => BookText {
+                number: refusal.number(),
+                size: 0,
+            },
+        }
+    }
 }

@@ -5,9 +5,10 @@ ghost use Rattle.std.specs.Prelude.{◌≡◌, ◌+◌, ◌*◌, ◌≤◌, leng
 ghost use Rattle.text_laws.specs.Lines.{longest_line};
 ghost use Rattle.text_laws.specs.inside.Put.{Put};
 ghost use Rattle.book_laws.specs.Bounds.{most_number};
-ghost use Rattle.book_laws.specs.Report.{refusal_lines, sum_lines, book_lines, book_room, lines_answer, lines_memory};
+ghost use Rattle.book_laws.specs.Report.{refusal_lines, sum_lines, book_lines, book_room, text_of, lines_answer, lines_memory};
 
-use book_laws::{Book, BookText};
+use arithmetic::Refusal;
+use book_laws::Book;
 
 // Room for eighteen lines.
 const BOOK_ROOM: usize = 2_304;
@@ -61,18 +62,15 @@ fn put_book(out: &mut [u8], end: usize, book: Book) -> usize
 }
 
 // The eighteen lines of a book, at the end of the lent room: 2,304 bytes are enough, and fewer are refused with 6 and left as they were.
-pub fn lines(book: Book, out: &mut [u8]) -> BookText
-    ensures answer { result ≡ lines_answer (book_lines book) (length out.old) }
-    ensures within { result.size ≤ length out.old }
+pub fn lines(book: Book, out: &mut [u8]) -> Result<usize, Refusal>
+    ensures answer { text_of result ≡ lines_answer (book_lines book) (length out.old) }
+    ensures within { (text_of result).size ≤ length out.old }
     ensures memory { out.new ≡ lines_memory (book_lines book) out.old }
 {
     let room = out.len();
     if room < BOOK_ROOM {
-        return BookText { number: 6, size: 0 };
+        return Err(Refusal::LengthOrRow);
     }
     let start = put_book(out, room, book);
-    BookText {
-        number: 0,
-        size: room - start,
-    }
+    Ok(room - start)
 }

@@ -2,33 +2,25 @@
 #![tactic(auto)]
 
 ghost use Rattle.std.specs.Prelude.{◌≡◌, ◌≤◌, ◌<◌, length};
-ghost use Rattle.book_laws.specs.Files.{head_of, file_book};
+ghost use Rattle.book_laws.specs.Files.{head_with, head_of, file_book};
 ghost use Rattle.book_laws.specs.inside.Files.{field_end};
-ghost use Rattle.book_laws.specs.Report.{book_lines, lines_answer, lines_memory};
+ghost use Rattle.book_laws.specs.Report.{book_lines, text_of, lines_answer, lines_memory};
 
-use book_laws::{Book, BookText, Head};
+use arithmetic::Refusal;
+use book_laws::Book;
 
-// Reads the head of a field from the first three bytes. Fewer, or another tag, are not sound.
-pub fn head_of(bytes: &[u8]) -> Head
-    ensures value { result ≡ head_of bytes.now }
-    ensures size_bound { result.size < 65536 }
+// The length of a field's data, from the three bytes of its head. Fewer, or another tag, are no head.
+pub fn head_of(bytes: &[u8]) -> Option<usize>
+    ensures value { head_with result ≡ head_of bytes.now }
+    ensures size_bound { (head_with result).size < 65536 }
 {
     if bytes.len() < 3 {
-        return Head {
-            sound: false,
-            size: 0,
-        };
+        return None;
     }
     if bytes[0] != 16 {
-        return Head {
-            sound: false,
-            size: 0,
-        };
+        return None;
     }
-    Head {
-        sound: true,
-        size: usize::from(bytes[1]) * 256 + usize::from(bytes[2]),
-    }
+    Some(usize::from(bytes[1]) * 256 + usize::from(bytes[2]))
 }
 
 // The end of the field that stands at a place, or the place itself where no whole field stands there.
@@ -36,15 +28,14 @@ fn field_end(file: &[u8], at: usize) -> usize
     requires { at ≤ length file.now }
     ensures { result ≡ field_end file.now at }
 {
-    let head = head_of(&file[at..]);
-    if !head.sound {
+    let Some(size) = head_of(&file[at..]) else {
         return at;
-    }
+    };
     let room = file.len() - at;
-    if room < 3 + head.size {
+    if room < 3 + size {
         return at;
     }
-    at + 3 + head.size
+    at + 3 + size
 }
 
 // The book of a whole file in memory: one pair of memories for the trees of all its jobs.
@@ -69,9 +60,9 @@ pub fn file_book(file: &[u8]) -> Book
 }
 
 // The lines of a whole file in memory, as `lines` puts them.
-pub fn report(file: &[u8], out: &mut [u8]) -> BookText
-    ensures answer { result ≡ lines_answer (book_lines (file_book file.now)) (length out.old) }
-    ensures within { result.size ≤ length out.old }
+pub fn report(file: &[u8], out: &mut [u8]) -> Result<usize, Refusal>
+    ensures answer { text_of result ≡ lines_answer (book_lines (file_book file.now)) (length out.old) }
+    ensures within { (text_of result).size ≤ length out.old }
     ensures memory { out.new ≡ lines_memory (book_lines (file_book file.now)) out.old }
 {
     book_lines::lines(file_book(file), out)

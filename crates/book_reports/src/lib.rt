@@ -7,26 +7,16 @@ mod tests;
 ghost use Rattle.std.specs.Prelude.{◌≡◌};
 ghost use Rattle.report_laws.specs.Reports.{empty_report, book_report};
 ghost use Rattle.report_laws.specs.FileReports.{file_report};
-ghost use Rattle.report_laws.specs.Joins.{refused_join, joined_report};
+ghost use Rattle.report_laws.specs.Joins.{joined_of, joined_report};
 
+use arithmetic::Refusal;
 use book_laws::Book;
-use report_laws::{Joined, Report};
+use report_laws::Report;
 
 pub fn empty() -> Report
     ensures { result ≡ empty_report }
 {
-    Report {
-        books: 0,
-        fields: 0,
-        priced: 0,
-        refused: [0u64; 13],
-        bonds: 0,
-        options: 0,
-        error_bounds: 0,
-        dearest: 0,
-        book: 0,
-        place: 0,
-    }
+    report_laws::empty()
 }
 
 // The report of one book, which has the number 1.
@@ -55,34 +45,20 @@ pub fn of_file(file: &[u8]) -> Report
     of_book(book_report::file_book(file))
 }
 
-fn refused(number: u64) -> Joined
-    ensures { result ≡ refused_join number }
-{
-    let none = empty();
-    Joined {
-        number,
-        report: none,
-    }
-}
-
 // The report of the books of both, the second's numbered after the first's. 1 for a report that no files give, and 12 for more than 2,305,843,009 books
 // and fields, whose sums could pass 64 bits.
-pub fn joined(first: Report, second: Report) -> Joined
-    ensures { result ≡ joined_report first second }
+pub fn joined(first: Report, second: Report) -> Result<Report, Refusal>
+    ensures { joined_of result ≡ joined_report first second }
 {
     if !tests::is_report(first) {
-        return refused(1);
+        return Err(Refusal::Job);
     }
     if !tests::is_report(second) {
-        return refused(1);
+        return Err(Refusal::Job);
     }
     let size = first.books + first.fields + (second.books + second.fields);
     if report_laws::MOST_SIZE < size {
-        return refused(12);
+        return Err(Refusal::Value);
     }
-    let sum = sums::sum_of(first, second);
-    Joined {
-        number: 0,
-        report: sum,
-    }
+    Ok(sums::sum_of(first, second))
 }

@@ -59,12 +59,12 @@ use bands::Verdict;
 use book_laws::BookText;
 use job_laws::JobPrices;
 use job_record::{Job, Reading};
-use job_sheet::Written;
 use lattice::Branches;
 use lending::Worth;
 use price_bound::TreeErrorBounds;
 use price_laws::{BondAndOption, Price, Strip};
 use quotes::Point;
+use record_sheet::Written;
 use report_laws::{Joined, Report};
 use row_view::RowRange;
 use shelf_laws::{Part, Shelf, Shelved};
@@ -415,7 +415,7 @@ pub extern "C" fn mixegorta_sheet(job: &[u8], out: &mut [u8]) -> Written
     ensures answer { result ≡ answer_of (sheet_number job.now (length out.old)) (sheet_text job.now) }
     ensures memory { out.new ≡ sheet_memory job.now out.old }
 {
-    job_sheet::sheet(job, out)
+    Written::from(job_sheet::sheet(job, out))
 }
 
 // The tree of the job stands at the start of both memories where nothing is refused.
@@ -462,7 +462,7 @@ pub extern "C" fn mixegorta_book_report(file: &[u8], out: &mut [u8]) -> BookText
     ensures answer { result ≡ lines_answer (book_lines (file_book file.now)) (length out.old) }
     ensures memory { out.new ≡ lines_memory (book_lines (file_book file.now)) out.old }
 {
-    book_report::report(file, out)
+    BookText::from(book_report::report(file, out))
 }
 
 // ---- reports of books that add up
@@ -485,7 +485,7 @@ pub extern "C" fn mixegorta_report_of_file(file: &[u8]) -> Report
 pub extern "C" fn mixegorta_joined_reports(first: Report, second: Report) -> Joined
     ensures { result ≡ joined_report first second }
 {
-    book_reports::joined(first, second)
+    Joined::from(book_reports::joined(first, second))
 }
 
 // ---- a shelf of trees

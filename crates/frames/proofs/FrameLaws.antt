@@ -1,14 +1,15 @@
 -- A frame by the tests that the code makes.
 -- Assumes nothing.
-use mathlib.Core.Path.{◌≡◌}
-use mathlib.Core.Bool.{true}
+use mathlib.Core.Path.{◌≡◌, refl, sym, ap, ◌∙◌}
+use mathlib.Core.Bool.{Bool, true, false, cond, true≢false}
 use mathlib.Core.List.{List}
 use Prim.Native.Nat.{ℕ, ◌+◌, ◌*◌, ◌≤◌, ◌<◌}
 use native.Mathlib.Omega.{arith}
-use lib.ListN.{length, get_or}
+use lib.ListN.{length, get_or, take, drop}
+use lib.Seq.{drop-drop}
 use borrow.Author.Tests.{le-leb, lt-leb}
 use Rattle.frames.specs.declared.Frame.{Frame}
-use Rattle.frames.specs.Frames.{size_at, no_frame, frame_at}
+use Rattle.frames.specs.Frames.{size_at, no_frame, frame_at, frame_bytes, after_frame}
 
 abbrev pub Framed : List ℕ → ℕ → Frame → Type 0
 Framed input at r = (r ≡ frame_at input at) × (r.start + r.size ≤ length input)
@@ -29,3 +30,22 @@ module _ (input : List ℕ) (at : ℕ) where
     pub frame_found : at + 2 + size ≤ length input → Framed input at (record { found = true; start = at + 2; size = size })
     unfolding frame_at
     frame_found h = (rw (size_is, le-leb (at + 2 + size_at input at) (length input) (omega (arith, size_is))), h)
+
+-- a frame that is there starts behind its length
+pub frame-start : (input : List ℕ) → (frame_at input 0).found ≡ true → (frame_at input 0).start ≡ 2
+unfolding frame_at
+frame-start input h = go _ h
+  where
+    go : (b : Bool) → (cond b (record { found = true; start = 2; size = size_at input 0 }) no_frame).found ≡ true
+        → (cond b (record { found = true; start = 2; size = size_at input 0 }) no_frame).start ≡ 2
+    go true e = refl
+    go false e = absurd (true≢false (sym e))
+
+-- the frame and what follows it, cut off in turn
+pub frame-parts : (input whole frame after : List ℕ) → (frame_at input 0).found ≡ true → whole ≡ drop (frame_at input 0).start input
+    → frame ≡ take (frame_at input 0).size whole → after ≡ drop (frame_at input 0).size whole
+    → ((frame_at input 0).found ≡ true) × (frame ≡ frame_bytes input) × (after ≡ after_frame input)
+unfolding frame_bytes after_frame
+frame-parts input whole frame after h w f a =
+    let e : whole ≡ drop 2 input = w ∙ ap (λ (start : ℕ). drop start input) (frame-start input h) in
+    (h, f ∙ ap (take (frame_at input 0).size) e, a ∙ ap (drop (frame_at input 0).size) e ∙ drop-drop (frame_at input 0).size 2 input)

@@ -1,6 +1,6 @@
 -- Framed input: each frame stands after its length in two bytes, high byte first.
 -- Assumes nothing.
-use Rattle.std.specs.Prelude.{ℕ, ◌+◌, ◌*◌, true, false, cond, List, leb, length, get_or}
+use Rattle.std.specs.Prelude.{ℕ, ◌+◌, ◌*◌, true, false, cond, List, leb, length, get_or, take, drop}
 use Rattle.frames.specs.declared.Frame.{Frame}
 
 -- room for the inputs of the programs here
@@ -17,3 +17,11 @@ no_frame = record { found = false; start = 0; size = 0 }
 -- the frame whose length stands at a place; none where it is cut short
 unfoldable pub frame_at : List ℕ → ℕ → Frame
 frame_at input at = cond (leb (at + 2 + size_at input at) (length input)) (record { found = true; start = at + 2; size = size_at input at }) no_frame
+
+-- the bytes of the frame that the input begins with
+unfoldable pub frame_bytes : List ℕ → List ℕ
+frame_bytes input = take (frame_at input 0).size (drop 2 input)
+
+-- what follows that frame
+unfoldable pub after_frame : List ℕ → List ℕ
+after_frame input = drop (2 + (frame_at input 0).size) input

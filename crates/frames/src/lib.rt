@@ -1,11 +1,11 @@
 // Framed input: each frame stands after its length in two bytes, high byte first.
 #![tactic(auto)]
 
-ghost use Rattle.std.specs.Prelude.{◌≡◌, ◌+◌, ◌*◌, ◌≤◌, length, replicate};
-ghost use Rattle.frames.specs.Frames.{input_room, no_frame, frame_at};
+ghost use Rattle.std.specs.Prelude.{◌≡◌, ◌+◌, ◌*◌, ◌≤◌, ◌<◌, length, replicate, true, false, MatchOption};
+ghost use Rattle.frames.specs.Frames.{input_room, no_frame, frame_at, frame_bytes, after_frame};
 
 // Whether there is a frame, where its bytes start, and how many they are.
-#[derive(Drop)]
+#[derive(Clone, Copy)]
 pub struct Frame {
     pub found: bool,
     pub start: usize,
@@ -57,4 +57,18 @@ pub fn frame_at(input: &[u8], at: usize) -> Frame
         start,
         size,
     }
+}
+
+// The bytes of the frame that the input begins with, and what follows it; none where it is cut short.
+pub fn split_frame(input: &[u8]) -> Option<(&[u8], &[u8])>
+    ensures frame { MatchOption result ((frame_at input.now 0).found ≡ false)
+        (λ parts. ((frame_at input.now 0).found ≡ true) × (parts.0.now ≡ frame_bytes input.now) × (parts.1.now ≡ after_frame input.now)) }
+    ensures shorter { MatchOption result (length input.now ≡ length input.now) (λ parts. length parts.1.now < length input.now) }
+{
+    let frame = frame_at(input, 0);
+    if !frame.found {
+        return None;
+    }
+    let (_, framed) = input.split_at(frame.start);
+    Some(framed.split_at(frame.size))
 }

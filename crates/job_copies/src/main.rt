@@ -30,32 +30,13 @@ fn copy(bytes: &[u8], room: &mut [u8]) {
     write_frame(&room[..size]);
 }
 
-// Copies the job at a place of the input, and answers the place behind it; 0 where there is none.
-fn copy_next(input: &[u8], at: usize, room: &mut [u8]) -> usize {
-    let frame = frames::frame_at(input, at);
-    if !frame.found {
-        return 0;
-    }
-    let start = frame.start;
-    let end = start + frame.size;
-    copy(&input[start..end], room);
-    end
-}
-
-// There are fewer frames than bytes.
-fn copy_all(input: &[u8], room: &mut [u8]) {
-    let mut at = 0usize;
-    for _ in 0..input.len() {
-        at = copy_next(input, at, room);
-        if at == 0 {
-            return;
-        }
-    }
-}
-
 fn main() {
     let mut input = frames::input_room();
-    let count = io::read_full(0, &mut input);
     let mut room = [0u8; job_reader::MOST_BYTES];
-    copy_all(&input[..count], &mut room);
+    let count = io::read_full(0, &mut input);
+    let mut rest = &input[..count];
+    while let Some((job, after)) = frames::split_frame(rest) {
+        copy(job, &mut room);
+        rest = after;
+    }
 }

@@ -10,23 +10,19 @@ ghost use Rattle.sheet_laws.specs.WholeJob.{
   printed_memory,
 };
 ghost use Rattle.text_laws.specs.Put.{placed_of};
-ghost use Rattle.record_sheet.specs.Answers.{answer_of};
+ghost use Rattle.record_sheet.specs.Answers.{answer_of, written_of};
 
 use arithmetic::Refusal;
-pub use record_sheet::Written;
 
 // The sheet of a job, at the end of the lent room: 468,736 bytes are enough for every job, and fewer are refused with 6. 1 a job that is
 // malformed; then the lowest of the causes of its fit, its bond and its option, but 13 before 12. A refusal leaves the room as it was.
-pub fn sheet(job: &[u8], out: &mut [u8]) -> Written
-    ensures answer { result ≡ answer_of (sheet_number job.now (length out.old)) (sheet_text job.now) }
+pub fn sheet(job: &[u8], out: &mut [u8]) -> Result<usize, Refusal>
+    ensures answer { written_of result ≡ answer_of (sheet_number job.now (length out.old)) (sheet_text job.now) }
     ensures memory { out.new ≡ sheet_memory job.now out.old }
 {
     let reading = job_reader::read(job);
     if reading.number != 0 {
-        return Written {
-            number: reading.number,
-            size: 0,
-        };
+        return Err(Refusal::Job);
     }
     record_sheet::sheet_of_record(reading.job, out)
 }
@@ -40,8 +36,8 @@ pub fn printed(job: &[u8], out: &mut [u8]) -> Result<usize, Refusal>
 {
     let written = sheet(job, out);
     let room = out.len();
-    if written.number != 0 {
-        return text::refused_line(out, room, written.number);
+    match written {
+        Ok(size) => Ok(room - size),
+        Err(refusal) => text::refused_line(out, room, refusal.number()),
     }
-    Ok(room - written.size)
 }

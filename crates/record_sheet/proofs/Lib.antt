@@ -1,2 +1,3 @@
 pub mod AnswerLaws
 mod DrawLaws
+mod NumberLaws

@@ -12,7 +12,7 @@ ghost use Rattle.text_laws.specs.Put.{with_text};
 ghost use Rattle.text_laws.specs.inside.Put.{Put};
 ghost use Rattle.sheet_laws.specs.inside.Stored.{Fitted};
 ghost use Rattle.sheet_laws.specs.WholeJob.{room_cause, job_number, job_text};
-ghost use Rattle.record_sheet.specs.Answers.{refused_sheet, answer_of};
+ghost use Rattle.record_sheet.specs.Answers.{answer_of, written_of};
 
 use arithmetic::Refusal;
 use job_laws::JobPrices;
@@ -27,10 +27,41 @@ pub struct Written {
     pub size: usize,
 }
 
-fn refused(number: u64) -> Written
-    ensures { result ≡ refused_sheet number }
+impl From<Result<usize, Refusal>> for Written {
+    ghost from_gives = { λ outcome written. written ≡ written_of outcome };
+
+    fn from(outcome: Result<usize, Refusal>) -> Written {
+        match outcome {
+            Ok(size) => Written { number: 0, size },
+            Err(refusal) => Written {
+                number: refusal.number(),
+                size: 0,
+            },
+        }
+    }
+}
+
+// The refusal that a number of a job's prices stands for.
+fn outcome_of(number: u64) -> Result<(), Refusal>
+    requires { number ≤ 13 }
+    ensures { cause_of result ≡ number }
 {
-    Written { number, size: 0 }
+    match number {
+        0 => Ok(()),
+        1 => Err(Refusal::Job),
+        2 => Err(Refusal::Frequency),
+        3 => Err(Refusal::Steps),
+        4 => Err(Refusal::Reversion),
+        5 => Err(Refusal::Volatility),
+        6 => Err(Refusal::LengthOrRow),
+        7 => Err(Refusal::Quote),
+        8 => Err(Refusal::Spacing),
+        9 => Err(Refusal::Discount),
+        10 => Err(Refusal::Flow),
+        11 => Err(Refusal::Option),
+        12 => Err(Refusal::Value),
+        _ => Err(Refusal::Dates),
+    }
 }
 
 fn room_cause(room: usize) -> Result<(), Refusal>
@@ -80,8 +111,8 @@ fn draw<'a>(
 
 // The sheet of a record, at the end of the lent room: 468,736 bytes are enough for every job, and fewer are refused with 6. Else the number of
 // its prices. A refusal leaves the room as it was.
-pub fn sheet_of_record(job: Job, out: &mut [u8]) -> Written
-    ensures answer { result ≡ answer_of (job_number job (length out.old)) (job_text job) }
+pub fn sheet_of_record(job: Job, out: &mut [u8]) -> Result<usize, Refusal>
+    ensures answer { written_of result ≡ answer_of (job_number job (length out.old)) (job_text job) }
     ensures memory { out.new ≡ with_text (job_number job (length out.old)) out.old (length out.old)
         (job_text job) }
 {
@@ -89,13 +120,7 @@ pub fn sheet_of_record(job: Job, out: &mut [u8]) -> Written
     let mut state_prices = limits::state_price_room();
     let prices = job_prices::prices_in_place(job, &mut discounts, &mut state_prices);
     let room = out.len();
-    let cause = arithmetic::lowest_cause(prices.number, arithmetic::cause(room_cause(room)));
-    if cause != 0 {
-        return refused(cause);
-    }
+    arithmetic::lowest_refusal(outcome_of(prices.number), room_cause(room))?;
     let start = draw(job, prices, &discounts, &state_prices, out);
-    Written {
-        number: 0,
-        size: room - start,
-    }
+    Ok(room - start)
 }

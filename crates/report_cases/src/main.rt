@@ -5,7 +5,7 @@
 use report_laws::Report;
 
 // All files one by one, and by twos: the pairs so far, and the file that waits for its second.
-#[derive(Drop)]
+#[derive(Clone, Copy)]
 struct Totals {
     single: Report,
     paired: Report,
@@ -70,8 +70,7 @@ fn write_report(room: &mut [u8], report: Report) {
 
 // A join that is refused is the empty report.
 fn sum_of(first: Report, second: Report) -> Report {
-    let joined = book_reports::joined(first, second);
-    joined.report
+    book_reports::joined(first, second).unwrap_or(book_reports::empty())
 }
 
 fn with_report(totals: Totals, report: Report) -> Totals {
@@ -117,38 +116,12 @@ fn all_paired(totals: Totals) -> Report {
     sum_of(pairs, waiting)
 }
 
-// The totals with the file at a place of the input, and the place behind it; 0 where there is none.
-#[derive(Drop)]
-struct Step {
-    totals: Totals,
-    at: usize,
-}
-
-fn next_file(totals: Totals, input: &[u8], at: usize) -> Step {
-    let frame = frames::frame_at(input, at);
-    if !frame.found {
-        return Step { totals, at: 0 };
-    }
-    let start = frame.start;
-    let end = start + frame.size;
-    let next = with_report(totals, book_reports::of_file(&input[start..end]));
-    Step {
-        totals: next,
-        at: end,
-    }
-}
-
-// There are fewer frames than bytes.
 fn read_all(input: &[u8]) -> Totals {
     let mut totals = no_totals();
-    let mut at = 0usize;
-    for _ in 0..input.len() {
-        let step = next_file(totals, input, at);
-        totals = step.totals;
-        if step.at == 0 {
-            return totals;
-        }
-        at = step.at;
+    let mut rest = input;
+    while let Some((file, after)) = frames::split_frame(rest) {
+        totals = with_report(totals, book_reports::of_file(file));
+        rest = after;
     }
     totals
 }

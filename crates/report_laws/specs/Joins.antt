@@ -1,8 +1,10 @@
 -- Reports that are joined, or refused: 1 for a report that no files give, 12 for so many books and fields that a total could pass 64 bits.
 -- Assumes nothing.
-use Rattle.std.specs.Prelude.{ℕ, ◌+◌, ◌*◌, Bool, cond, ◌&&◌, List, eqb, leb}
+use Rattle.std.specs.Prelude.{ℕ, ◌+◌, ◌*◌, Bool, cond, ◌&&◌, List, eqb, leb, Result, Ok, Err}
 use Rattle.arithmetic.specs.Row.{values}
 use Rattle.arithmetic.specs.Sum.{sum}
+use Rattle.arithmetic.specs.Refusals.{number_of}
+use Rattle.arithmetic.specs.declared.Refusal.{Refusal}
 use Rattle.limits.specs.Limits.{value_limit}
 use Rattle.book_laws.specs.Bounds.{most_number, most_error_bound}
 use Rattle.book_laws.specs.Books.{most_fields, counts_within}
@@ -51,6 +53,11 @@ refused_join number = record { number = number; report = empty_report }
 
 abbrev pub given_join : Report → Joined
 given_join r = record { number = 0; report = r }
+
+-- a report that may be refused, as C sees it
+abbrev pub joined_of : Result Report Refusal → Joined
+joined_of (Ok report) = given_join report
+joined_of (Err refusal) = refused_join (number_of refusal)
 
 unfoldable pub joined_report : Report → Report → Joined
 joined_report a b =

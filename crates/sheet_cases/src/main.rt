@@ -8,32 +8,13 @@ fn write_sheet(job: &[u8], room: &mut [u8]) {
     }
 }
 
-// Writes the sheet of the job at a place of the input, and answers the place behind it; 0 where there is none.
-fn write_next(input: &[u8], at: usize, room: &mut [u8]) -> usize {
-    let frame = frames::frame_at(input, at);
-    if !frame.found {
-        return 0;
-    }
-    let start = frame.start;
-    let end = start + frame.size;
-    write_sheet(&input[start..end], room);
-    end
-}
-
-// There are fewer frames than bytes.
-fn write_all(input: &[u8], room: &mut [u8]) {
-    let mut at = 0usize;
-    for _ in 0..input.len() {
-        at = write_next(input, at, room);
-        if at == 0 {
-            return;
-        }
-    }
-}
-
 fn main() {
     let mut input = frames::input_room();
     let mut room = sheet_room::sheet_room();
     let count = io::read_full(0, &mut input);
-    write_all(&input[..count], &mut room);
+    let mut rest = &input[..count];
+    while let Some((job, after)) = frames::split_frame(rest) {
+        write_sheet(job, &mut room);
+        rest = after;
+    }
 }

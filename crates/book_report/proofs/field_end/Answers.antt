@@ -1,18 +1,18 @@
-use borrow.Author.Tests.{not-true, not-false}
+use mathlib.Core.Path.{refl}
 use Rattle.book_laws.proofs.FileLaws.{end-unsound, end-cut, end_whole}
 use Rattle.book_report.proofs.field_end.Goals as goal
 
-pub returns-then-not-head : goal.returns-then-not-head
-returns-then-not-head c =
+pub returns-in_default : goal.returns-in_default
+returns-in_default c =
     let a = c.args in
-    end-unsound a.file.now a.at c.head_of-head.result c.head_of-head.ensures.value (not-true _ c.if-not-head.true)
+    end-unsound a.file.now a.at _ c.in_default.ensures.value refl
 
-pub returns-then-room-head : goal.returns-then-room-head
-returns-then-room-head c =
+pub returns-then-room-size : goal.returns-then-room-size
+returns-then-room-size c =
     let a = c.args in
-    end-cut a.file.now a.at c.head_of-head.result c.head_of-head.ensures.value (not-false _ c.if-not-head.false) c.if-room-head.true
+    end-cut a.file.now a.at _ c.in-Some.ensures.value refl c.if-room-size.true
 
 pub returns : goal.returns
 returns c =
     let a = c.args in
-    end_whole a.file.now a.at c.head_of-head.result c.head_of-head.ensures.value (not-false _ c.if-not-head.false) c.if-room-head.false
+    end_whole a.file.now a.at _ c.in-Some.ensures.value refl c.if-room-size.false

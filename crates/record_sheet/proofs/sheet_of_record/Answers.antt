@@ -1,7 +1,11 @@
-use mathlib.Core.Path.{◌≡◌, sym, ◌∙◌}
-use Prim.Native.Nat.{◌≤◌}
+use mathlib.Core.Path.{◌≡◌, refl, sym, ap, ◌∙◌}
+use Prim.Native.Nat.{ℕ, ◌≤◌}
 use native.Mathlib.Omega.{arith}
 use lib.ListN.{length}
+use Rattle.std.proofs.lemmas.Result.{err_from_is_err_and}
+use Rattle.arithmetic.specs.Answers.{lowest_cause}
+use Rattle.arithmetic.specs.Refusals.{cause_of}
+use Rattle.arithmetic.proofs.RefusalLaws.{refusal-some}
 use Rattle.limits.specs.Limits.{most_discounts, most_state_prices}
 use Rattle.job_laws.specs.JobPrices.{record_prices}
 use Rattle.sheet_room.specs.Room.{sheet_room}
@@ -10,8 +14,9 @@ use Rattle.sheet_laws.specs.WholeJob.{job_number}
 use Rattle.sheet_laws.proofs.FittedLaws as fits
 use Rattle.sheet_laws.proofs.SheetLaws as laws
 use Rattle.record_sheet.proofs.AnswerLaws as answers
+use Rattle.record_sheet.proofs.NumberLaws.{record-most}
 use Rattle.record_sheet.proofs.sheet_of_record.Goals as goal
-use Rattle.record_sheet.proofs.sheet_of_record.Goals.{After-lowest_cause-cause, After-prices_in_place-prices, Else-cause-ne0}
+use Rattle.record_sheet.proofs.sheet_of_record.Goals.{After-prices_in_place-prices, After-room_cause, In_ok-lowest_refusal}
 
 clauses-answer-memory : {A B : Type 0} → A × B → record { answer : A; memory : B }
 clauses-answer-memory w = record { answer = w.0; memory = w.1 }
@@ -22,34 +27,43 @@ largest c =
     let own-p = c.state_price_room-state_prices in
     fits.prices-largest c.args.job own-d.result own-p.result own-d.ensures own-p.ensures _ c.prices_in_place-prices.ensures.answer
 
-number_is : (c : After-lowest_cause-cause) →
-    let a = c.args in
-    c.lowest_cause-cause.result ≡ job_number a.job (length a.out.now)
-number_is c =
-    let a = c.args in
-    laws.cause-is a.job _ (largest (goal.at.After-lowest_cause-cause c).After-prices_in_place-prices)
-    a.out.now _ _ (c.cause.ensures ∙ c.room_cause.ensures) c.lowest_cause-cause.ensures
+-- the number of the prices is a refusal's or 0
+pub outcome_of-requires : goal.outcome_of-requires
+outcome_of-requires c =
+    let e = laws.prices-number-is c.args.job _ (largest (goal.at.outcome_of-requires c).After-prices_in_place-prices) in
+    omega (arith, e, record-most c.args.job most_discounts most_state_prices)
 
-pub returns-then-cause-ne0 : goal.returns-then-cause-ne0
-returns-then-cause-ne0 c =
-    let a = c.args in
-    clauses-answer-memory
-    (answers.refused-by _ _ _ a.out.now _ c.refused.ensures (number_is (goal.at.returns-then-cause-ne0 c).After-lowest_cause-cause) c.if-cause-ne0.true)
+-- the lowest of both causes, by the number of the prices
+lowest : (c : After-room_cause) (x : ℕ) → x ≡ lowest_cause (cause_of c.outcome_of.result) (cause_of c.room_cause.result) →
+    x ≡ lowest_cause c.prices_in_place-prices.result.number (cause_of c.room_cause.result)
+lowest c x e = e ∙ ap (λ (y : ℕ). lowest_cause y (cause_of c.room_cause.result)) c.outcome_of.ensures
+
+number_is : (c : After-room_cause) (x : ℕ) → x ≡ lowest_cause (cause_of c.outcome_of.result) (cause_of c.room_cause.result) →
+    x ≡ job_number c.args.job (length c.args.out.now)
+number_is c x e =
+    laws.cause-is c.args.job _ (largest (goal.at.After-room_cause c).After-prices_in_place-prices)
+    c.args.out.now _ x c.room_cause.ensures (lowest c x e)
+
+pub returns-in_err-lowest_refusal : goal.returns-in_err-lowest_refusal
+returns-in_err-lowest_refusal c =
+    let p = err_from_is_err_and c.from_residual.result c.from_residual.ensures.1 in
+    let number = number_is (goal.at.returns-in_err-lowest_refusal c).After-room_cause _ c.in_err-lowest_refusal.ensures in
+    rw (p.1, p.2) (clauses-answer-memory (answers.refused-by _ _ _ c.args.out.now _ refl number (refusal-some _)))
 
 -- where no cause refuses the job
-no-cause : (c : Else-cause-ne0) → c.prices_in_place-prices.result.number ≡ 0
+no-cause : (c : In_ok-lowest_refusal) → c.prices_in_place-prices.result.number ≡ 0
 no-cause c =
-    let a = c.args in
-    laws.priced-none a.job _ (largest (goal.at.Else-cause-ne0 c).After-prices_in_place-prices)
-    a.out.now _ _ (c.cause.ensures ∙ c.room_cause.ensures) c.lowest_cause-cause.ensures c.if-cause-ne0.false
+    laws.priced-none c.args.job _ (largest (goal.at.In_ok-lowest_refusal c).After-prices_in_place-prices)
+    c.args.out.now _ _ c.room_cause.ensures
+    (lowest (goal.at.In_ok-lowest_refusal c).After-room_cause _ c.in_ok-lowest_refusal.ensures) refl
 
-room : (c : Else-cause-ne0) → sheet_room ≤ length c.args.out.now
+room : (c : In_ok-lowest_refusal) → sheet_room ≤ length c.args.out.now
 room c =
-    let a = c.args in
-    laws.room-given a.job _ (largest (goal.at.Else-cause-ne0 c).After-prices_in_place-prices)
-    a.out.now _ _ (c.cause.ensures ∙ c.room_cause.ensures) c.lowest_cause-cause.ensures c.if-cause-ne0.false
+    laws.room-given c.args.job _ (largest (goal.at.In_ok-lowest_refusal c).After-prices_in_place-prices)
+    c.args.out.now _ _ c.room_cause.ensures
+    (lowest (goal.at.In_ok-lowest_refusal c).After-room_cause _ c.in_ok-lowest_refusal.ensures) refl
 
-fitted : (c : Else-cause-ne0) →
+fitted : (c : In_ok-lowest_refusal) →
     Fitted c.args.job c.prices_in_place-prices.new.discounts c.prices_in_place-prices.new.state_prices
 fitted c =
     let job = c.args.job in
@@ -57,16 +71,15 @@ fitted c =
     let own-p = c.state_price_room-state_prices in
     let left = c.prices_in_place-prices.ensures in
     fits.fitted job own-d.result own-p.result own-d.ensures own-p.ensures _ _
-    (sym (laws.prices-number-is job _ (largest (goal.at.Else-cause-ne0 c).After-prices_in_place-prices)) ∙ no-cause c)
+    (sym (laws.prices-number-is job _ (largest (goal.at.In_ok-lowest_refusal c).After-prices_in_place-prices)) ∙ no-cause c)
     left.discounted left.priced
 
 pub draw-start-requires : goal.draw-start-requires
 draw-start-requires c =
+    let ok = (goal.at.draw-start-requires c).In_ok-lowest_refusal in
     record {
-      fitted = (fitted (goal.at.draw-start-requires c).Else-cause-ne0, room (goal.at.draw-start-requires c).Else-cause-ne0);
-      prices_value =
-          laws.prices-known c.args.job _ (largest (goal.at.draw-start-requires c).After-prices_in_place-prices)
-          (no-cause (goal.at.draw-start-requires c).Else-cause-ne0);
+      fitted = (fitted ok, room ok);
+      prices_value = laws.prices-known c.args.job _ (largest (goal.at.draw-start-requires c).After-prices_in_place-prices) (no-cause ok);
     }
 
 pub overflow_sub-result : goal.overflow_sub-result
@@ -74,5 +87,5 @@ overflow_sub-result c = omega (arith, c.draw-start.ensures.place)
 
 pub returns : goal.returns
 returns c =
-    clauses-answer-memory
-    (answers.sheet-put _ _ c.args.out.now _ _ (sym (number_is (goal.at.returns c).After-lowest_cause-cause) ∙ c.if-cause-ne0.false) c.draw-start.ensures)
+    let number = number_is (goal.at.returns c).After-room_cause _ c.in_ok-lowest_refusal.ensures in
+    clauses-answer-memory (answers.sheet-put _ _ c.args.out.now _ _ (sym number) c.draw-start.ensures)

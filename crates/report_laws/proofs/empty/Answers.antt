@@ -1,6 +1,6 @@
 use mathlib.Core.Path.{refl}
 use Rattle.report_laws.specs.Reports.{empty_report}
-use Rattle.book_reports.proofs.empty.Goals as goal
+use Rattle.report_laws.proofs.empty.Goals as goal
 
 pub returns : goal.returns
 unfolding empty_report
