@@ -63,7 +63,7 @@ pub fn frame_at(input: &[u8], at: usize) -> Frame
 pub fn split_frame(input: &[u8]) -> Option<(&[u8], &[u8])>
     ensures frame { MatchOption result ((frame_at input.now 0).found ≡ false)
         (λ parts. ((frame_at input.now 0).found ≡ true) × (parts.0.now ≡ frame_bytes input.now) × (parts.1.now ≡ after_frame input.now)) }
-    ensures shorter { MatchOption result (length input.now ≡ length input.now) (λ parts. length parts.1.now < length input.now) }
+    ensures shorter { MatchOption result ((frame_at input.now 0).found ≡ false) (λ parts. length parts.1.now < length input.now) }
 {
     let frame = frame_at(input, 0);
     if !frame.found {
