@@ -37,8 +37,8 @@ pub enum Fault {
     SeveralBands { row: u64, price: u64 },
 }
 
-// The answer to a table as C sees it: 0 where it is accepted, else the number of the refusal, with the first failing pair (17 in no band,
-// 18 in two or more) or the place of the first bad band (16).
+// The answer to a table: 0 where it is accepted, else the number of the refusal, with the first failing pair (17 in no band,
+// 18 in two or more) or the place of the first bad band, counted from 1 (16; 41 where only the number of bands is wrong).
 #[repr(C)]
 #[derive(Drop)]
 pub struct Verdict {
