@@ -3,7 +3,7 @@
 /** A whole number: a BigInt, or a Number that is whole and at most 2^53 - 1 in size. */
 export type Whole = bigint | number;
 
-/** An answer that can be a refusal, as C sees it: number 0 with the value, or the refusal's number with value 0. */
+/** An answer that can be a refusal: number 0 with the value, or the refusal's number with value 0. */
 export interface Answer {
     number: bigint;
     value: bigint;
@@ -13,7 +13,8 @@ export interface AnswerGiven {
     value: Whole;
 }
 
-/** A branch as C sees it: number 0, or the refusal's number with zeros. */
+/** Where a node leads: to `lowest` and the two nodes above it, with probabilities up, middle, down over
+ *  600,000,000. */
 export interface Branches {
     number: bigint;
     lowest: bigint;
@@ -45,7 +46,7 @@ export interface RowRangeGiven {
     count: Whole;
 }
 
-/** A signed rate as C sees it: number 0 with the rate in billionths, or the number of a refusal with value 0. */
+/** Number 0 with the signed rate in billionths, or refusal 9 with value 0. */
 export interface Rate {
     number: bigint;
     value: bigint;
@@ -55,7 +56,8 @@ export interface RateGiven {
     value: Whole;
 }
 
-/** The same as C sees it: number 0, or a refusal's number with zeros. */
+/** What is known of a tree: its error bound, and the greatest discount of each row, 0 for rows that the tree has
+ *  not; a refusal's number with zeros. */
 export interface TreeErrorBounds {
     number: bigint;
     bound: bigint;
@@ -276,8 +278,9 @@ export interface ShelvedGiven {
     shelf: ShelfGiven;
 }
 
-/** The answer to a table as C sees it: 0 where it is accepted, else the number of the refusal, with the first
- *  failing pair (17 in no band, 18 in two or more) or the place of the first bad band (16). */
+/** The answer to a table: 0 where it is accepted, else the number of the refusal, with the first failing pair (17
+ *  in no band, 18 in two or more) or the place of the first bad band, counted from 1 (16; 41 where only the number
+ *  of bands is wrong). */
 export interface Verdict {
     number: bigint;
     row: bigint;
@@ -291,7 +294,7 @@ export interface VerdictGiven {
     place: Whole;
 }
 
-/** The lending worth as C sees it: 0 where it is refused, and the verdict. */
+/** The lending worth, 0 where it is refused, and the verdict. */
 export interface Worth {
     worth: bigint;
     verdict: Verdict;

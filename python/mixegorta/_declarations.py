@@ -6,13 +6,13 @@ from ._types import BOOL, F64, I64, SIZE, U8, U64, PointerTo, SliceOf
 
 
 class CAnswer(ctypes.Structure):
-    """An answer that can be a refusal, as C sees it: number 0 with the value, or the refusal's number with value 0."""
+    """An answer that can be a refusal: number 0 with the value, or the refusal's number with value 0."""
 
     _fields_ = [("number", U64), ("value", U64)]
 
 
 class CBranches(ctypes.Structure):
-    """A branch as C sees it: number 0, or the refusal's number with zeros."""
+    """Where a node leads: to `lowest` and the two nodes above it, with probabilities up, middle, down over 600,000,000."""
 
     _fields_ = [("number", U64), ("lowest", I64), ("probabilities", U64 * 3)]
 
@@ -30,13 +30,13 @@ class CRowRange(ctypes.Structure):
 
 
 class CRate(ctypes.Structure):
-    """A signed rate as C sees it: number 0 with the rate in billionths, or the number of a refusal with value 0."""
+    """Number 0 with the signed rate in billionths, or refusal 9 with value 0."""
 
     _fields_ = [("number", U64), ("value", I64)]
 
 
 class CTreeErrorBounds(ctypes.Structure):
-    """The same as C sees it: number 0, or a refusal's number with zeros."""
+    """What is known of a tree: its error bound, and the greatest discount of each row, 0 for rows that the tree has not; a refusal's number with zeros."""
 
     _fields_ = [("number", U64), ("bound", U64), ("greatest", U64 * 60)]
 
@@ -138,13 +138,13 @@ class CShelved(ctypes.Structure):
 
 
 class CVerdict(ctypes.Structure):
-    """The answer to a table as C sees it: 0 where it is accepted, else the number of the refusal, with the first failing pair (17 in no band, 18 in two or more) or the place of the first bad band (16)."""
+    """The answer to a table: 0 where it is accepted, else the number of the refusal, with the first failing pair (17 in no band, 18 in two or more) or the place of the first bad band, counted from 1 (16; 41 where only the number of bands is wrong)."""
 
     _fields_ = [("number", U64), ("row", U64), ("price", U64), ("place", U64)]
 
 
 class CWorth(ctypes.Structure):
-    """The lending worth as C sees it: 0 where it is refused, and the verdict."""
+    """The lending worth, 0 where it is refused, and the verdict."""
 
     _fields_ = [("worth", U64), ("verdict", CVerdict)]
 

@@ -1,6 +1,6 @@
 //! What the archive exports. Written by tools/declarations.py from the crates.
 
-/// An answer that can be a refusal, as C sees it: number 0 with the value, or the refusal's number with value 0.
+/// An answer that can be a refusal: number 0 with the value, or the refusal's number with value 0.
 #[repr(C)]
 #[derive(Clone, Copy)]
 pub struct Answer {
@@ -8,7 +8,7 @@ pub struct Answer {
     pub value: u64,
 }
 
-/// A branch as C sees it: number 0, or the refusal's number with zeros.
+/// Where a node leads: to `lowest` and the two nodes above it, with probabilities up, middle, down over 600,000,000.
 #[repr(C)]
 #[derive(Clone, Copy)]
 pub struct Branches {
@@ -33,7 +33,7 @@ pub struct RowRange {
     pub count: usize,
 }
 
-/// A signed rate as C sees it: number 0 with the rate in billionths, or the number of a refusal with value 0.
+/// Number 0 with the signed rate in billionths, or refusal 9 with value 0.
 #[repr(C)]
 #[derive(Clone, Copy)]
 pub struct Rate {
@@ -41,7 +41,8 @@ pub struct Rate {
     pub value: i64,
 }
 
-/// The same as C sees it: number 0, or a refusal's number with zeros.
+/// What is known of a tree: its error bound, and the greatest discount of each row, 0 for rows that the tree has not; a refusal's
+/// number with zeros.
 #[repr(C)]
 #[derive(Clone, Copy)]
 pub struct TreeErrorBounds {
@@ -199,8 +200,8 @@ pub struct Shelved {
     pub shelf: Shelf,
 }
 
-/// The answer to a table as C sees it: 0 where it is accepted, else the number of the refusal, with the first failing pair (17 in
-/// no band, 18 in two or more) or the place of the first bad band (16).
+/// The answer to a table: 0 where it is accepted, else the number of the refusal, with the first failing pair (17 in no band, 18
+/// in two or more) or the place of the first bad band, counted from 1 (16; 41 where only the number of bands is wrong).
 #[repr(C)]
 #[derive(Clone, Copy)]
 pub struct Verdict {
@@ -210,7 +211,7 @@ pub struct Verdict {
     pub place: u64,
 }
 
-/// The lending worth as C sees it: 0 where it is refused, and the verdict.
+/// The lending worth, 0 where it is refused, and the verdict.
 #[repr(C)]
 #[derive(Clone, Copy)]
 pub struct Worth {

@@ -98,7 +98,7 @@ pub fn lowest_refusal<A: Copy, B: Copy>(
     })
 }
 
-// An answer that can be a refusal, as C sees it: number 0 with the value, or the refusal's number with value 0.
+// An answer that can be a refusal: number 0 with the value, or the refusal's number with value 0.
 #[repr(C)]
 #[derive(Drop)]
 pub struct Answer {

@@ -37,8 +37,8 @@ pub enum Fault {
     SeveralBands { row: u64, price: u64 },
 }
 
-// The answer to a table as C sees it: 0 where it is accepted, else the number of the refusal, with the first failing pair (17 in no band,
-// 18 in two or more) or the place of the first bad band (16).
+// The answer to a table: 0 where it is accepted, else the number of the refusal, with the first failing pair (17 in no band,
+// 18 in two or more) or the place of the first bad band, counted from 1 (16; 41 where only the number of bands is wrong).
 #[repr(C)]
 #[derive(Drop)]
 pub struct Verdict {
@@ -171,8 +171,7 @@ fn stop_at(
 }
 
 // The lowest price of a row that is in no band or in several, if there is one. Between two stops the number of bands that contain a price
-// does not change, so that only the stops are looked at. Inside its one caller the walk takes a tenth longer.
-#[inline(never)]
+// does not change, so that only the stops are looked at.
 fn failing_price(
     firsts: &[u64],
     lasts: &[u64],
@@ -196,7 +195,8 @@ fn failing_price(
     None
 }
 
-// The first row with a failing price, and its lowest, if there is one.
+// The first row with a failing price, and its lowest, if there is one. Inside the whole judgement the walk takes a fifth longer.
+#[inline(never)]
 fn failing_pair(
     firsts: &[u64],
     lasts: &[u64],

@@ -40,11 +40,12 @@ fn series_sums(y: u64) -> Sums
     Sums { even, odd }
 }
 
-// The product where it is at most one, else one more than that: the product itself may not fit.
+// The product where it is at most one, else one more than that: the product itself may not fit, that of the two numbers so bounded does. A product
+// that saturates would need a function from outside on processors without a wide product.
 fn bounded_product(distance: u64, spacing: u64) -> u64
     ensures { result ≡ min (distance * spacing) (one + 1) }
 {
-    distance.saturating_mul(spacing).min(ONE + 1)
+    (distance.min(ONE + 1) * spacing.min(ONE + 1)).min(ONE + 1)
 }
 
 // The factors of the two nodes at a distance from the middle one.

@@ -13,6 +13,7 @@ ghost use Rattle.text_laws.specs.Put.{placed_of};
 ghost use Rattle.record_sheet.specs.Answers.{answer_of, written_of};
 
 use arithmetic::Refusal;
+pub use record_sheet::Written;
 
 // The sheet of a job, at the end of the lent room: 468,736 bytes are enough for every job, and fewer are refused with 6. 1 a job that is
 // malformed; then the lowest of the causes of its fit, its bond and its option, but 13 before 12. A refusal leaves the room as it was.

@@ -29,7 +29,7 @@ pub struct Branch {
     pub probabilities: [u64; 3],
 }
 
-// A branch as C sees it: number 0, or the refusal's number with zeros.
+// Where a node leads: to `lowest` and the two nodes above it, with probabilities up, middle, down over 600,000,000.
 #[repr(C)]
 #[derive(Drop)]
 pub struct Branches {
@@ -178,7 +178,7 @@ pub fn state_prices_needed(steps: usize, reversion: u64) -> Result<u64, Refusal>
     )
 }
 
-// 6 where the memories of so many discounts and state prices are too short for a tree; 0 for a tree that is refused itself.
+// Refused with 6 where the memories of so many discounts and state prices are too short for a tree; not for a tree that is refused itself.
 pub fn memory_cause(
     steps: usize,
     reversion: u64,

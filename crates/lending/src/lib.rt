@@ -10,7 +10,7 @@ ghost use Rattle.lending.specs.Lending.{band_index, lending_worth, result_worth}
 use arithmetic::Refusal;
 use bands::{Fault, Verdict};
 
-// The lending worth as C sees it: 0 where it is refused, and the verdict.
+// The lending worth, 0 where it is refused, and the verdict.
 #[repr(C)]
 #[derive(Drop)]
 pub struct Worth {

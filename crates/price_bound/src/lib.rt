@@ -24,7 +24,7 @@ pub struct TreeBounds {
     pub greatest: [u64; MOST_STEPS],
 }
 
-// The same as C sees it: number 0, or a refusal's number with zeros.
+// What is known of a tree: its error bound, and the greatest discount of each row, 0 for rows that the tree has not; a refusal's number with zeros.
 #[repr(C)]
 #[derive(Drop)]
 pub struct TreeErrorBounds {

@@ -132,7 +132,9 @@ fn of_point(frequency: u64, kind: u8, point: Point) -> Result<u64, Refusal>
     Err(Refusal::Quote)
 }
 
-// The discount of a lone point. Refusals, the lowest first: the steps a year, the row, then the kind, the figure or the discount.
+// The discount of a lone point. Refusals, the lowest first: the steps a year, the row, then the kind, the figure or the discount. Inside its
+// callers its result stays in registers.
+#[inline(always)]
 pub fn lone_point(frequency: u64, kind: u8, point: Point) -> Result<u64, Refusal>
     ensures { answer_of result ≡ lone_answer frequency kind point }
 {

@@ -8,7 +8,7 @@ ghost use Rattle.step_rate.specs.StepRate.{rate_of, rate_answer};
 
 use arithmetic::{ONE, Refusal};
 
-// A signed rate as C sees it: number 0 with the rate in billionths, or the number of a refusal with value 0.
+// Number 0 with the signed rate in billionths, or refusal 9 with value 0.
 #[repr(C)]
 #[derive(Drop)]
 pub struct Rate {

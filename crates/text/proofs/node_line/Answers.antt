@@ -23,10 +23,10 @@ pub returns-in_err-rate : goal.returns-in_err-rate
 returns-in_err-rate c =
     let f = c.from_residual-in_err-rate in
     let p = err_from_is_err_and f.result f.ensures.1 in
-    let a = c.args in
-    let far = node-far (length a.out.now) a.end a.discount (sym c.in_ok-line_cause.ensures) in
+    let given = c.args in
+    let cause = node-far (length given.out.now) given.end given.discount (sym c.in_ok-line_cause.ensures) in
     let number = ap (λ (r : Rate). r.number) c.in_err-rate.ensures in
-    rw (p.1, p.2) (clauses-value-out_after (node-refused a.out.now a.end a.row a.discount _ _ (number ∙ far) (refusal-some _)))
+    rw (p.1, p.2) (clauses-value-out_after (node-refused given.out.now given.end given.row given.discount _ _ (number ∙ cause) (refusal-some _)))
 
 pub put_node-requires : goal.put_node-requires
 put_node-requires c = room-known _ _ (sym c.in_ok-line_cause.ensures)
